@@ -1,0 +1,26 @@
+// Numbers written in bytes, low byte first. What lies past the end of the bytes counts as 0.
+ghost use mathlib.Core.Path.{_≡_};
+ghost use Rattle.words.specs.Bytes.{byte, number};
+
+// The byte at a place.
+pub fn byte_at(bytes: &[u8], at: usize) -> u8
+    ensures { λ r. ⌜ r ≡ byte (now (bytes .entry)) at ⌝ }
+{
+    if at < bytes.len() { bytes[at] } else { 0 }
+}
+
+// The number of two bytes from a place on.
+pub fn u16_at(bytes: &[u8], at: usize) -> u16
+    ensures { λ r. ⌜ r ≡ number (now (bytes .entry)) at 2 ⌝ }
+{
+    let high = at.saturating_add(1);
+    u16::from_le_bytes([byte_at(bytes, at), byte_at(bytes, high)])
+}
+
+// The number of four bytes from a place on.
+pub fn u32_at(bytes: &[u8], at: usize) -> u32
+    ensures { λ r. ⌜ r ≡ number (now (bytes .entry)) at 4 ⌝ }
+{
+    let high = at.saturating_add(2);
+    u32::from(u16_at(bytes, at)) + (u32::from(u16_at(bytes, high)) << 16)
+}
