@@ -1,3 +1,4 @@
 pub mod Numbers
 pub mod Frame
 pub mod Signs
+pub mod First

@@ -2,3 +2,5 @@ pub mod Bytes
 pub mod Bits
 pub mod Frames
 pub mod Laws
+pub mod Costs
+pub mod First

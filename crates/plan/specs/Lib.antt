@@ -1,0 +1,4 @@
+pub mod Refused
+pub mod Format
+pub mod Rules
+pub mod Timetable

@@ -1,0 +1,66 @@
+// Why a plan or an image is refused: a rule, by its number, and the place at which it is broken.
+ghost use mathlib.Core.Path.{_≡_};
+ghost use Rattle.plan.specs.Refused.{number-of, place-of};
+
+#[derive(Clone, Copy)]
+pub enum Count {
+    Partitions,
+    Slots,
+    Channels,
+}
+
+#[derive(Clone, Copy)]
+pub enum Refusal {
+    // the bytes end inside the plan, after so many
+    Truncated(usize),
+    // a count is outside of its range
+    CountRange(Count),
+    // a slot's partition or length
+    SlotRule(u8),
+    // a channel's partitions
+    ChannelRule(u8),
+    // a partition's start address is not a multiple of 4
+    StartMisaligned(u8),
+    // the budget is outside of its range or not ample
+    BudgetRule,
+    // fewer frames are lent than are needed
+    FramesMissing,
+    // bytes after the end, from this one on
+    Surplus(usize),
+}
+
+impl Refusal {
+    // The number of the broken rule.
+    pub fn number(self) -> u8
+        ensures { λ r. ⌜ r ≡ number-of self ⌝ }
+    {
+        match self {
+            Refusal::Truncated(_) => 1,
+            Refusal::CountRange(_) => 2,
+            Refusal::SlotRule(_) => 3,
+            Refusal::ChannelRule(_) => 4,
+            Refusal::StartMisaligned(_) => 9,
+            Refusal::BudgetRule => 10,
+            Refusal::FramesMissing => 11,
+            Refusal::Surplus(_) => 12,
+        }
+    }
+
+    // The place at which it is broken.
+    pub fn place(self) -> usize
+        ensures { λ r. ⌜ r ≡ place-of self ⌝ }
+    {
+        match self {
+            Refusal::Truncated(length) => length,
+            Refusal::CountRange(Count::Partitions) => 0,
+            Refusal::CountRange(Count::Slots) => 1,
+            Refusal::CountRange(Count::Channels) => 2,
+            Refusal::SlotRule(slot) => slot as usize,
+            Refusal::ChannelRule(channel) => channel as usize,
+            Refusal::StartMisaligned(partition) => partition as usize,
+            Refusal::BudgetRule => 3,
+            Refusal::FramesMissing => 0,
+            Refusal::Surplus(at) => at,
+        }
+    }
+}
