@@ -1,5 +1,8 @@
 -- The number and the place of each refusal.
+use mathlib.Core.Path.{_≡_}
+use mathlib.Core.Bool.{cond}
 use Prim.Native.Nat.{ℕ}
+use lib.Dec.{eqb}
 use Rattle.plan.specs.declared.refusal.Count.{Count}
 use Rattle.plan.specs.declared.refusal.Count.the-variants.{Partitions, Slots, Channels}
 use Rattle.plan.specs.declared.refusal.Refusal.{Refusal}
@@ -30,3 +33,22 @@ place-of (StartMisaligned partition) = partition
 place-of BudgetRule = 3
 place-of FramesMissing = 0
 place-of (Surplus at) = at
+
+abbrev pub count-at : ℕ → Count
+count-at k = cond (eqb k 0) Partitions (cond (eqb k 1) Slots Channels)
+
+-- the refusal with a number and a place
+abbrev pub refusal : ℕ → ℕ → Refusal
+refusal number at =
+    cond (eqb number 1) (Truncated at)
+    (cond (eqb number 2) (CountRange (count-at at))
+    (cond (eqb number 3) (SlotRule at)
+    (cond (eqb number 4) (ChannelRule at)
+    (cond (eqb number 9) (StartMisaligned at)
+    (cond (eqb number 10) BudgetRule
+    (cond (eqb number 11) FramesMissing
+    (Surplus at)))))))
+
+-- number and place tell the refusal
+abbrev pub Named : Type 0
+Named = (e : Refusal) → e ≡ refusal (number-of e) (place-of e)

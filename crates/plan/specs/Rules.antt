@@ -1,9 +1,7 @@
--- The rules of a plan that need no memory: each a sentence, the test that decides it, and the refusal of the first that is broken.
-use mathlib.Core.Path.{_≡_}
-use mathlib.Core.Bool.{Bool, cond, not, _&&_, _||_}
+-- The rules of a plan that need no memory as tests, and the refusal of the first that is broken.
+use mathlib.Core.Bool.{Bool, cond, not, _&&_}
 use mathlib.Core.List.{List}
-use mathlib.Core.Logic.{_⊎_, _≢_}
-use Prim.Native.Nat.{ℕ, _+_, _*_, _%_, _≤_, _<_}
+use Prim.Native.Nat.{ℕ, _+_, _*_, _%_}
 use lib.Dec.{ltb, leb, eqb}
 use lib.ListN.{length, getD}
 use Rattle.std.specs.declared.option.Option.{Option}
@@ -19,7 +17,8 @@ use Rattle.plan.specs.declared.model.Plan.{Plan}
 use Rattle.plan.specs.declared.refusal.Count.{Count}
 use Rattle.plan.specs.declared.refusal.Count.the-variants.{Partitions, Slots, Channels}
 use Rattle.plan.specs.declared.refusal.Refusal.{Refusal}
-use Rattle.plan.specs.declared.refusal.Refusal.the-variants.{Truncated, CountRange, SlotRule, ChannelRule, StartMisaligned, BudgetRule, FramesMissing, Surplus}
+use Rattle.plan.specs.declared.refusal.Refusal.the-variants.{Truncated, CountRange, SlotRule, ChannelRule, StartMisaligned, BudgetRule, Surplus}
+use Rattle.plan.specs.Refused.{count-at}
 use Rattle.plan.specs.Format.{plan-of, plan-size, no-partition, no-slot, no-channel}
 
 abbrev pub partition : Plan → ℕ → Partition
@@ -46,28 +45,39 @@ ample p = switch + message * most (channels-out p) (p .counts .partitions)
 abbrev pub broken-unless : Bool → Refusal → Option Refusal
 broken-unless kept e = cond kept None (Some e)
 
-unfoldable pub counts-fault : Counts → Option Refusal
-counts-fault c =
-    or-else (broken-unless (leb 1 (c .partitions) && leb (c .partitions) 8) (CountRange Partitions))
-    (or-else (broken-unless (leb 1 (c .slots) && leb (c .slots) 64) (CountRange Slots))
-    (broken-unless (leb (c .channels) 16) (CountRange Channels)))
+abbrev pub count-kept : Counts → Count → Bool
+count-kept c Partitions = leb 1 (c .partitions) && leb (c .partitions) 8
+count-kept c Slots = leb 1 (c .slots) && leb (c .slots) 64
+count-kept c Channels = leb (c .channels) 16
+
+abbrev pub count-fault : Counts → ℕ → Option Refusal
+count-fault c k = broken-unless (count-kept c (count-at k)) (CountRange (count-at k))
+
+abbrev pub slot-kept : Plan → ℕ → Bool
+slot-kept p k = ltb (slot p k .partition) (p .counts .partitions) && (leb 128 (slot p k .length) && leb (slot p k .length) 1000000)
 
 abbrev pub slot-fault : Plan → ℕ → Option Refusal
-slot-fault p k =
-    broken-unless (ltb (slot p k .partition) (p .counts .partitions) && (leb 128 (slot p k .length) && leb (slot p k .length) 1000000)) (SlotRule k)
+slot-fault p k = broken-unless (slot-kept p k) (SlotRule k)
+
+abbrev pub channel-kept : Plan → ℕ → Bool
+channel-kept p k =
+    ltb (channel p k .sender .partition) (p .counts .partitions)
+    && (ltb (channel p k .receiver .partition) (p .counts .partitions) && not (eqb (channel p k .sender .partition) (channel p k .receiver .partition)))
 
 abbrev pub channel-fault : Plan → ℕ → Option Refusal
-channel-fault p k =
-    broken-unless
-    (ltb (channel p k .sender .partition) (p .counts .partitions)
-      && (ltb (channel p k .receiver .partition) (p .counts .partitions) && not (eqb (channel p k .sender .partition) (channel p k .receiver .partition))))
-    (ChannelRule k)
+channel-fault p k = broken-unless (channel-kept p k) (ChannelRule k)
+
+abbrev pub start-kept : Plan → ℕ → Bool
+start-kept p k = eqb (partition p k .start % 4) 0
 
 abbrev pub start-fault : Plan → ℕ → Option Refusal
-start-fault p k = broken-unless (eqb (partition p k .start % 4) 0) (StartMisaligned k)
+start-fault p k = broken-unless (start-kept p k) (StartMisaligned k)
+
+abbrev pub budget-kept : Plan → Bool
+budget-kept p = leb 64 (p .budget) && (leb (p .budget) 100000 && leb (ample p) (p .budget))
 
 abbrev pub budget-fault : Plan → Option Refusal
-budget-fault p = broken-unless (leb 64 (p .budget) && (leb (p .budget) 100000 && leb (ample p) (p .budget))) BudgetRule
+budget-fault p = broken-unless (budget-kept p) BudgetRule
 
 abbrev pub truncated : List ℕ → Plan → Option Refusal
 truncated bytes p = broken-unless (leb (plan-size (p .counts)) (length bytes)) (Truncated (length bytes))
@@ -79,7 +89,7 @@ surplus bytes p = broken-unless (leb (length bytes) (plan-size (p .counts))) (Su
 unfoldable pub fault : List ℕ → Plan → Option Refusal
 fault bytes p =
     or-else (truncated bytes p)
-    (or-else (counts-fault (p .counts))
+    (or-else (first (count-fault (p .counts)) 3)
     (or-else (first (slot-fault p) (p .counts .slots))
     (or-else (first (channel-fault p) (p .counts .channels))
     (or-else (first (start-fault p) (p .counts .partitions))

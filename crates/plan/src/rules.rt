@@ -2,7 +2,8 @@
 ghost use mathlib.Core.Path.{_≡_};
 ghost use lib.ListN.{getD};
 ghost use Rattle.words.specs.First.{first, most, unless};
-ghost use Rattle.plan.specs.Rules.{ample, budget-fault, channel, channel-fault, channels-out, counts-fault, parsed, partition, slot, slot-fault, start-fault};
+ghost use Rattle.plan.specs.Rules.{ample, budget-fault, channel, channel-fault, channels-out, count-fault, parsed, partition, slot, slot-fault, start-fault};
+ghost use Rattle.plan.specs.Lawful.{Judges};
 use crate::model::*;
 use crate::refusal::Count;
 use crate::refusal::Refusal;
@@ -21,7 +22,7 @@ fn row<T: Copy>(rows: &[T], k: usize, none: T) -> T
 
 impl Counts {
     fn check(self) -> Result<(), Refusal>
-        ensures { λ r. ⌜ r ≡ unless (counts-fault self) tt ⌝ }
+        ensures { λ r. ⌜ r ≡ unless (first (count-fault self) 3) tt ⌝ }
     {
         if self.partitions < 1 || self.partitions > 8 {
             return Err(Refusal::CountRange(Count::Partitions));
@@ -158,6 +159,13 @@ impl Plan {
 
 // The plan that the bytes say, or the refusal of the first rule that they break.
 pub fn parse(bytes: &[u8]) -> Result<Plan, Refusal>
+    ensures value { λ r. ⌜ r ≡ parsed (now (bytes .entry)) ⌝ }
+    ensures verdict { λ r. ⌜ Judges (now (bytes .entry)) r ⌝ }
+{
+    first_fault(bytes)
+}
+
+fn first_fault(bytes: &[u8]) -> Result<Plan, Refusal>
     ensures { λ r. ⌜ r ≡ parsed (now (bytes .entry)) ⌝ }
 {
     let plan = Plan::read(bytes);
