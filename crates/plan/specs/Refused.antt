@@ -1,8 +1,11 @@
 -- The number and the place of each refusal.
 use mathlib.Core.Path.{_≡_}
 use mathlib.Core.Bool.{cond}
+use mathlib.Core.List.{List, _++_}
 use Prim.Native.Nat.{ℕ}
 use lib.Dec.{eqb}
+use lib.Chars.{codes}
+use Rattle.std.specs.Written.{decimal}
 use Rattle.plan.specs.declared.refusal.Count.{Count}
 use Rattle.plan.specs.declared.refusal.Count.the-variants.{Partitions, Slots, Channels}
 use Rattle.plan.specs.declared.refusal.Refusal.{Refusal}
@@ -52,3 +55,7 @@ refusal number at =
 -- number and place tell the refusal
 abbrev pub Named : Type 0
 Named = (e : Refusal) → e ≡ refusal (number-of e) (place-of e)
+
+-- what is printed of a refusal
+abbrev pub refusal-text : Refusal → List ℕ
+refusal-text e = codes "refused " ++ (decimal (number-of e) ++ (codes " at " ++ decimal (place-of e)))

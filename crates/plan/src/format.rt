@@ -13,6 +13,9 @@ const PARTITION: usize = 6;
 const SLOT: usize = 5;
 const CHANNEL: usize = 10;
 
+// So many bytes of a file tell all: no counts ask for as many, so a plan that goes on has bytes after its end.
+pub const LONGEST: usize = HEADER + 255 * (PARTITION + SLOT + CHANNEL) + 1;
+
 impl Counts {
     // The counts in the first three bytes, whatever they are.
     pub fn read(bytes: &[u8]) -> Counts

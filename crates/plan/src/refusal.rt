@@ -1,6 +1,9 @@
 // Why a plan or an image is refused: a rule, by its number, and the place at which it is broken.
 ghost use mathlib.Core.Path.{_≡_};
-ghost use Rattle.plan.specs.Refused.{number-of, place-of};
+ghost use Rattle.std.specs.declared.option.Option.the-variants.{Some};
+ghost use Rattle.plan.specs.Refused.{number-of, place-of, refusal-text};
+
+use std::fmt;
 
 #[derive(Clone, Copy)]
 pub enum Count {
@@ -62,5 +65,15 @@ impl Refusal {
             Refusal::FramesMissing => 0,
             Refusal::Surplus(at) => at,
         }
+    }
+}
+
+pub impl fmt::Display for Refusal as RefusalDisplay {
+    ghost shown = { λ e. Some (refusal-text e) };
+
+    fn fmt<W: fmt::Write>(&self, f: &mut fmt::Formatter<W>) -> fmt::Result {
+        let number = self.number();
+        let place = self.place();
+        write!(f, "refused {number} at {place}")
     }
 }
