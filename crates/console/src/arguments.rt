@@ -1,6 +1,7 @@
 // The words of the command line.
 ghost use mathlib.Core.Path.{_≡_};
-ghost use Rattle.std.specs.Of.Vec.{vec-len};
+ghost use Rattle.std.specs.Of.Vec.{vec-items, vec-len};
+ghost use Rattle.console.specs.Words.{Asks-help};
 ghost use Rattle.std.specs.Results.{isOk};
 ghost use lib.Dec.{leb, ltb};
 use crate::problem::Problem;
@@ -36,5 +37,15 @@ pub fn at_most(words: &Vec<String>, count: usize) -> Result<(), Problem>
     match words.get(count) {
         Some(word) => Err(Problem::SurplusArgument(word.clone()?)),
         None => Ok(()),
+    }
+}
+
+// Whether the first word asks how the program is called.
+pub fn asks_help(words: &Vec<String>) -> bool
+    ensures { λ r. ⌜ Asks-help (vec-items (now (words .entry))) r ⌝ }
+{
+    match words.first() {
+        Some(word) => word.as_str() == "--help",
+        None => false,
     }
 }

@@ -3,16 +3,16 @@ use mathlib.Core.Path.{_≡_}
 use mathlib.Core.Bool.{cond}
 use mathlib.Core.List.{List, map}
 use mathlib.Core.Logic.{_⊎_}
-use Prim.Native.Nat.{ℕ, _+_, _-_, _*_, _/_, _<_, min}
+use Prim.Native.Nat.{ℕ, _+_, _-_, _*_, _/_, _<_, _≤_, min}
 use lib.Dec.{ltb}
-use lib.ListN.{length}
+use lib.ListN.{length, take}
 use Rattle.std.specs.Iters.{counting}
 use Rattle.std.specs.declared.option.Option.{Option}
 use Rattle.std.specs.declared.option.Option.the-variants.{Some, None}
 use Rattle.std.specs.Results.{Cases}
 use Rattle.std.specs.declared.result.Result.{Result}
 use Rattle.std.specs.declared.result.Result.the-variants.{Ok, Err}
-use Rattle.words.specs.Bytes.{number}
+use Rattle.words.specs.Bytes.{byte, number}
 use Rattle.words.specs.First.{unless}
 use Rattle.plan.specs.declared.model.Plan.{Plan}
 use Rattle.plan.specs.declared.refusal.Refusal.{Refusal}
@@ -70,3 +70,15 @@ pub record Admits (bytes image : List ℕ) (r : Result Plan Refusal) : Type 0 wh
   pub cases : Cases r
       (λ p. Lawful bytes × Whole image × (p ≡ plan-of bytes))
       (λ e. First-broken bytes e ⊎ (Lawful bytes × Image-broken image e))
+
+-- the longest image that a count can ask for ends within so many bytes
+abbrev pub longest : ℕ
+longest = 268431363
+
+-- so the verdict on a file, and the words that it lends, are those of so many of its bytes
+pub record Front-tells (image : List ℕ) (n : ℕ) : Type 0 where
+  pub fault : image-fault (take n image) ≡ image-fault image
+  pub words : image-words (take n image) ≡ image-words image
+
+abbrev pub Tells-all : Type 0
+Tells-all = (image : List ℕ) (n : ℕ) → ((i : ℕ) → byte image i < 256) → longest ≤ n → Front-tells image n

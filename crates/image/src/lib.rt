@@ -3,7 +3,7 @@ ghost use mathlib.Core.Path.{_≡_};
 ghost use Rattle.std.specs.Of.Vec.{vec-items};
 ghost use Rattle.std.specs.Vec.{made};
 ghost use Rattle.words.specs.First.{unless};
-ghost use Rattle.image.specs.Frames.{Admits, admitted, image-fault, image-words, lent-frames};
+ghost use Rattle.image.specs.Frames.{Admits, Tells-all, admitted, image-fault, image-words, lent-frames, longest};
 use plan::model::Plan;
 use plan::refusal::Refusal;
 use plan::rules::parse;
@@ -17,7 +17,11 @@ const HEADER: usize = 2;
 const FRAME: usize = FRAME_WORDS * 4;
 
 // So many bytes of a file tell all: no count asks for as many, so an image that goes on has bytes after its last frame.
-pub const LONGEST: usize = HEADER + 65535 * FRAME + 1;
+pub fn longest() -> usize
+    ensures { λ r. ⌜ r ≡ longest ⌝ }
+{
+    HEADER + 65535 * FRAME + 1
+}
 
 // How many frames the image lends: the whole ones that it has, at most as many as it counts.
 pub fn lent(image: &[u8]) -> usize
@@ -68,3 +72,12 @@ fn both(plan: &[u8], image: &[u8]) -> Result<Plan, Refusal>
     check(image)?;
     Ok(plan)
 }
+
+// A file is not read past its longest image: nothing there changes a verdict or a lent word.
+pub fn laws()
+    ensures { λ _. ⌜ Tells-all ⌝ }
+{
+}
+
+#[cfg(test)]
+mod tests;

@@ -1,5 +1,5 @@
 -- A loop that fills an array row by row.
-use mathlib.Core.Path.{_≡_, refl, sym, _∙_}
+use mathlib.Core.Path.{_≡_, refl, sym, _∙_, ap}
 use mathlib.Core.Bool.{cond}
 use mathlib.Core.List.{List}
 use mathlib.Core.Logic.{inl, inr}
@@ -43,3 +43,9 @@ module _ {X : Type 0} (at : ℕ → X) (blank : X) (room : ℕ) where
 
   pub rows-all : (xs : List X) (i many : ℕ) → xs ≡ rows at blank room i → i ≡ min room many → xs ≡ rows at blank room many
   rows-all xs i many e h = e ∙ (rw h (all many))
+
+-- rows that agree below their room are the same
+pub rows-same : {X : Type 0} (at also : ℕ → X) (blank : X) (room many : ℕ) → ((k : ℕ) → k < room → at k ≡ also k) → rows at blank room many ≡ rows also blank room many
+rows-same at also blank room many h =
+    same-rows also blank room (rows at blank room many) many (length-rows at blank room many)
+    (λ k l. rows-at at blank room many k l ∙ ap (λ x. cond (ltb k many) x blank) (h k l))

@@ -1,9 +1,11 @@
 -- The rules of a plan that need no memory as tests, and the refusal of the first that is broken.
+use mathlib.Core.Path.{_≡_}
 use mathlib.Core.Bool.{Bool, cond, not, _&&_}
 use mathlib.Core.List.{List}
-use Prim.Native.Nat.{ℕ, _+_, _*_, _%_}
+use Prim.Native.Nat.{ℕ, _+_, _*_, _%_, _<_, _≤_}
 use lib.Dec.{ltb, leb, eqb}
-use lib.ListN.{length, getD}
+use lib.ListN.{length, getD, take}
+use Rattle.words.specs.Bytes.{byte}
 use Rattle.std.specs.declared.option.Option.{Option}
 use Rattle.std.specs.declared.option.Option.the-variants.{Some, None}
 use Rattle.std.specs.declared.result.Result.{Result}
@@ -98,3 +100,11 @@ fault bytes p =
 -- the refusal of the first broken rule, or the plan that the bytes say
 unfoldable pub parsed : List ℕ → Result Plan Refusal
 parsed bytes = unless (fault bytes (plan-of bytes)) (plan-of bytes)
+
+-- the longest plan that the counts can ask for ends within so many bytes
+abbrev pub longest : ℕ
+longest = 5363
+
+-- so the verdict on a file is that on so many of its bytes
+abbrev pub Tells-all : Type 0
+Tells-all = (bytes : List ℕ) (n : ℕ) → ((i : ℕ) → byte bytes i < 256) → longest ≤ n → parsed (take n bytes) ≡ parsed bytes

@@ -2,6 +2,7 @@
 // and 10 for each channel. Numbers are low byte first.
 ghost use mathlib.Core.Path.{_≡_};
 ghost use Prim.Native.Nat.{_^_, _<_};
+ghost use Rattle.plan.specs.Rules.{longest};
 ghost use Rattle.plan.specs.Format.{channel-at, channels-from, channels-in, counts-of, partition-at, partitions-in, plan-of, plan-size, slot-at, slots-from, slots-in};
 use crate::model::*;
 use words::bytes::byte_at;
@@ -14,7 +15,11 @@ const SLOT: usize = 5;
 const CHANNEL: usize = 10;
 
 // So many bytes of a file tell all: no counts ask for as many, so a plan that goes on has bytes after its end.
-pub const LONGEST: usize = HEADER + 255 * (PARTITION + SLOT + CHANNEL) + 1;
+pub fn longest() -> usize
+    ensures { λ r. ⌜ r ≡ longest ⌝ }
+{
+    HEADER + 255 * (PARTITION + SLOT + CHANNEL) + 1
+}
 
 impl Counts {
     // The counts in the first three bytes, whatever they are.

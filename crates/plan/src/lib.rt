@@ -5,3 +5,5 @@ pub mod model;
 pub mod refusal;
 pub mod rules;
 pub mod timetable;
+#[cfg(test)]
+mod tests;

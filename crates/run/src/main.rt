@@ -1,6 +1,7 @@
 // run PLAN IMAGE SLOTS, run PLAN IMAGE --slots N: prints a line for each slot of a run, as it goes.
 use console::arguments::argument;
 use console::arguments::arguments;
+use console::arguments::asks_help;
 use console::arguments::at_most;
 use console::files::read_up_to;
 use console::problem::Problem;
@@ -23,14 +24,16 @@ fn main(rt: LibcRuntime) -> Result<(), ()> {
 
 fn run(rt: &LibcRuntime) -> Result<(), Problem> {
     let words = arguments(rt)?;
+    if asks_help(&words) {
+        return Ok(println!(rt, "usage: {}", PROGRAM.usage)?);
+    }
     let plan = argument(&words, 0, "PLAN")?;
     let image = argument(&words, 1, "IMAGE")?;
     let slots = slots_asked(rt, &words)?;
-    let plan = read_up_to(rt, plan, plan::format::LONGEST)?;
-    let image = read_up_to(rt, image, image::LONGEST)?;
+    let plan = read_up_to(rt, plan, plan::format::longest())?;
+    let image = read_up_to(rt, image, image::longest())?;
     let plan = image::admit(&plan, &image)?;
-    print_slots(rt, &plan, slots)?;
-    Ok(())
+    Ok(print_slots(rt, &plan, slots)?)
 }
 
 // The number of slots: a file of four bytes, low byte first, or the decimal number after --slots.

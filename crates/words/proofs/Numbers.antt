@@ -5,8 +5,8 @@ use mathlib.Core.Logic.{inl, inr}
 use Prim.Native.Nat.{ℕ, zero, suc, _+_, _-_, _*_, _/_, _%_, _^_, _≤_, _<_, min}
 use native.Mathlib.Nat.{zero-add, add-zero, mul-assoc, mul-add-div, div-eq-of-lt, pow-succ', suc-add}
 use native.Mathlib.Omega.{arith}
-use lib.ListN.{length, getD}
-use Rattle.std.proofs.shelf.Lists.{getD-past}
+use lib.ListN.{length, getD, take}
+use Rattle.std.proofs.shelf.Lists.{getD-past, getD-take}
 use Rattle.std.proofs.shelf.Tests.{cases-lt}
 use Rattle.words.specs.Bytes.{byte, number}
 use Rattle.words.specs.Laws.{Low-byte-first}
@@ -48,3 +48,8 @@ low-byte-first bytes at count k h l =
     let low : number bytes at k < 256 ^ k = number-below bytes at k h in
     let pos : 0 < 256 ^ k = omega arith in
     rw (parts, mul-add-div pos rest (number bytes at k), div-eq-of-lt low) (omega (arith, h (at + k)))
+
+-- a number that lies in a front part is the same in the whole
+pub number-take : (bytes : List ℕ) (n at count : ℕ) → at + count ≤ n → number (take n bytes) at count ≡ number bytes at count
+number-take bytes n at zero h = refl
+number-take bytes n at (suc count) h = rw (getD-take n bytes at 0 (omega arith), number-take bytes n (at + 1) count (omega arith)) refl

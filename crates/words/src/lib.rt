@@ -4,3 +4,5 @@ pub mod bytes;
 pub mod costs;
 pub mod frames;
 pub mod laws;
+#[cfg(test)]
+mod tests;
