@@ -16,12 +16,6 @@ pub number-past : (bytes : List ℕ) (at count : ℕ) → length bytes ≤ at �
 number-past bytes at zero h = refl
 number-past bytes at (suc count) h = omega (arith, getD-past bytes at 0 h, number-past bytes (at + 1) count (omega arith))
 
--- a place that stops at the largest index reads as the place itself
-pub number-far : (bytes : List ℕ) (at count most : ℕ) → length bytes ≤ most → number bytes (min at most) count ≡ number bytes at count
-number-far bytes at count most h = elim (cases-lt at most) [
-    inl l ↦ let e : min at most ≡ at = omega arith in rw e
-  | inr l ↦ number-past bytes (min at most) count (omega arith) ∙ sym (number-past bytes at count (omega arith)) ]
-
 -- the bytes after the first m weigh 256 ^ m
 pub number-split : (bytes : List ℕ) (at m n : ℕ) → number bytes at (m + n) ≡ number bytes at m + 256 ^ m * number bytes (at + m) n
 number-split bytes at zero n = rw (zero-add, add-zero) (omega arith)

@@ -13,14 +13,21 @@ pub fn byte_at(bytes: &[u8], at: usize) -> u8
 pub fn u16_at(bytes: &[u8], at: usize) -> u16
     ensures { λ r. ⌜ r ≡ number (now (bytes .entry)) at 2 ⌝ }
 {
-    let high = at.saturating_add(1);
-    u16::from_le_bytes([byte_at(bytes, at), byte_at(bytes, high)])
+    if at >= bytes.len() {
+        return 0;
+    }
+    u16::from_le_bytes([bytes[at], byte_at(bytes, at + 1)])
 }
 
 // The number of four bytes from a place on.
 pub fn u32_at(bytes: &[u8], at: usize) -> u32
     ensures { λ r. ⌜ r ≡ number (now (bytes .entry)) at 4 ⌝ }
 {
-    let high = at.saturating_add(2);
-    u32::from(u16_at(bytes, at)) + (u32::from(u16_at(bytes, high)) << 16)
+    if at >= bytes.len() {
+        return 0;
+    }
+    let second = at + 1;
+    let third = second + 1;
+    let fourth = third + 1;
+    u32::from_le_bytes([bytes[at], byte_at(bytes, second), byte_at(bytes, third), byte_at(bytes, fourth)])
 }

@@ -2,6 +2,7 @@
 ghost use mathlib.Core.Path.{_≡_};
 ghost use Prim.Native.Nat.{_+_, _*_, _≤_};
 ghost use lib.ListN.{length};
+ghost use Rattle.std.specs.shelf.Lists.{paste};
 ghost use Rattle.words.specs.Frames.{contents, copied, lent, word, written};
 
 pub const FRAME_WORDS: usize = 1024;
@@ -37,9 +38,7 @@ pub fn copy(words: &mut [u32], from: u32, to: u32)
 {
     if is_lent(words, from) && is_lent(words, to) {
         let source = fetched(words, from as usize);
-        let start = to as usize * FRAME_WORDS;
-        let end = start + FRAME_WORDS;
-        overwrite(&mut words[start..end], &source);
+        replace(words, to as usize, &source);
     }
 }
 
@@ -51,6 +50,15 @@ fn fetched(words: &[u32], frame: usize) -> [u32; 1024]
     let mut source = [0; FRAME_WORDS];
     source.copy_from_slice(&words[start..start + FRAME_WORDS]);
     source
+}
+
+fn replace(words: &mut [u32], frame: usize, source: &[u32; 1024])
+    requires { ⌜ frame * 1024 + 1024 ≤ length (now words) ⌝ }
+    ensures { λ _. ⌜ now (words .exit) ≡ paste (now (words .entry)) (frame * 1024) (now (source .entry)) 1024 ⌝ }
+{
+    let start = frame * FRAME_WORDS;
+    let end = start + FRAME_WORDS;
+    overwrite(&mut words[start..end], source);
 }
 
 fn overwrite(target: &mut [u32], source: &[u32; 1024])
