@@ -5,11 +5,14 @@ use console::arguments::asks_help;
 use console::arguments::at_most;
 use console::files::read_up_to;
 use console::problem::Problem;
-use console::problem::Program;
 use console::problem::ProblemFromIo;
 use console::problem::ProblemFromRefusal;
+use console::problem::Program;
 
-const PROGRAM: Program = Program { name: "check", usage: "check PLAN IMAGE" };
+const PROGRAM: Program = Program {
+    name: "check",
+    usage: "check PLAN IMAGE",
+};
 
 fn main(rt: LibcRuntime) -> Result<(), ()> {
     PROGRAM.ended(&rt, check(&rt))

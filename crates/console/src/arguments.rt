@@ -21,7 +21,11 @@ pub fn arguments(rt: &LibcRuntime) -> io::Result<Vec<String>> {
 }
 
 // The word at a place, which the usage calls by this name.
-pub fn argument<'a>(words: &'a Vec<String>, at: usize, name: &'static str) -> Result<&'a str, Problem>
+pub fn argument<'a>(
+    words: &'a Vec<String>,
+    at: usize,
+    name: &'static str,
+) -> Result<&'a str, Problem>
     ensures { λ r. ⌜ isOk r ≡ ltb at (vec-len (now (words .entry))) ⌝ }
 {
     match words.get(at) {

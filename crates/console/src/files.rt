@@ -5,10 +5,10 @@ ghost use Rattle.std.specs.Of.Vec.{vec-len};
 ghost use Rattle.std.specs.Results.{Cases};
 ghost use Rattle.std.specs.Vec.{made};
 use crate::problem::Problem;
+use crate::problem::ProblemFromAlloc;
 use std::fs::File;
 use std::io;
 use std::io::Read;
-use crate::problem::ProblemFromAlloc;
 
 const CHUNK: usize = 4096;
 

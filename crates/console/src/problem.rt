@@ -31,7 +31,10 @@ pub enum Problem {
 
 impl Problem {
     fn is_of_usage(&self) -> bool {
-        matches!(self, Problem::MissingArgument(_) | Problem::SurplusArgument(_) | Problem::NotNumber(_))
+        matches!(
+            self,
+            Problem::MissingArgument(_) | Problem::SurplusArgument(_) | Problem::NotNumber(_)
+        )
     }
 }
 
@@ -80,9 +83,15 @@ pub impl fmt::Display for Problem as ProblemDisplay {
             Problem::Refused(refusal) => write!(f, "{refusal}"),
             Problem::MissingArgument(name) => write!(f, "missing argument {name}"),
             Problem::SurplusArgument(text) => write!(f, "surplus argument '{text}'"),
-            Problem::NotNumber(text) => write!(f, "--slots takes a whole number from 0 to 4294967295, not '{text}'"),
+            Problem::NotNumber(text) => write!(
+                f,
+                "--slots takes a whole number from 0 to 4294967295, not '{text}'"
+            ),
             Problem::Unreadable(path, error) => write!(f, "cannot read {path}: {error}"),
-            Problem::SlotsLength(path) => write!(f, "{path}: a number of slots takes exactly 4 bytes"),
+            Problem::SlotsLength(path) => write!(
+                f,
+                "{path}: a number of slots takes exactly 4 bytes"
+            ),
             Problem::NoMemory => write!(f, "out of memory"),
             Problem::System(error) => write!(f, "{error}"),
         }

@@ -29,8 +29,14 @@ module _ (image : List ℕ) (n : ℕ) (small : (i : ℕ) → byte image i < 256)
   fault : image-fault (take n image) ≡ image-fault image
   fault =
       let size = image-size (counted image) in
-      rw (same-count, long, le-ltb n size (omega (arith, few)), le-ltb (length image) size (omega (arith, few)),
-          lt-ltb size n (omega (arith, few)), lt-ltb size (length image) (omega (arith, few))) refl
+      rw (
+        same-count,
+        long,
+        le-ltb n size (omega (arith, few)),
+        le-ltb (length image) size (omega (arith, few)),
+        lt-ltb size n (omega (arith, few)),
+        lt-ltb size (length image) (omega (arith, few)),
+      ) refl
 
   same-lent : lent-frames (take n image) ≡ lent-frames image
   same-lent = rw (same-count, long) (omega (arith, few))
@@ -43,5 +49,6 @@ module _ (image : List ℕ) (n : ℕ) (small : (i : ℕ) → byte image i < 256)
 
 pub tells-all : Tells-all
 tells-all image n small enough = elim (cases-lt n (length image)) [
-    inl l ↦ record { fault = fault image n small enough l; words = words image n small enough l }
-  | inr l ↦ record { fault = ap image-fault (take-all n image l); words = ap image-words (take-all n image l) } ]
+  | inl l ↦ record { fault = fault image n small enough l; words = words image n small enough l }
+  | inr l ↦ record { fault = ap image-fault (take-all n image l); words = ap image-words (take-all n image l) }
+]

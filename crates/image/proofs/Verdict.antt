@@ -23,10 +23,12 @@ use Rattle.image.specs.Frames.{Admits, Image-broken, Whole, admitted, counted,
 image-cases : (image : List ℕ) →
     ((image-fault image ≡ None) × Whole image) ⊎ ((e : Refusal) × (image-fault image ≡ Some e) × Image-broken image e)
 image-cases image = elim (cases-lt (length image) (image-size (counted image))) [
-    inl l ↦ inr (FramesMissing, rw (lt-ltb _ _ l) refl, inl (l, refl))
+  | inl l ↦ inr (FramesMissing, rw (lt-ltb _ _ l) refl, inl (l, refl))
   | inr l ↦ elim (cases-lt (image-size (counted image)) (length image)) [
-        inl h ↦ inr (Surplus (image-size (counted image)), rw (le-ltb _ _ l) (rw (lt-ltb _ _ h) refl), inr (h, refl))
-      | inr h ↦ inl (rw (le-ltb _ _ l) (rw (le-ltb _ _ h) refl), omega arith) ] ]
+    | inl h ↦ inr (Surplus (image-size (counted image)), rw (le-ltb _ _ l) (rw (lt-ltb _ _ h) refl), inr (h, refl))
+    | inr h ↦ inl (rw (le-ltb _ _ l) (rw (le-ltb _ _ h) refl), omega arith)
+  ]
+]
 
 -- a broken image is not whole
 not-whole : (image : List ℕ) (e : Refusal) → Image-broken image e → Whole image → ⊥
@@ -36,11 +38,13 @@ not-whole image e (inr b) w = omega (arith, b .0, w)
 module _ (bytes image : List ℕ) where
   at-plan : (r : Result Plan Refusal) → parsed bytes ≡ r → Judges bytes r → Admits bytes image (followed-by r (image-fault image))
   at-plan (Err e) h j = record {
-      accepts = λ l w. absurd (let z : _≡_ {A = ℕ} 0 1 = (let q = j .accepts l in cc) in omega arith);
-      cases = inl (j .cases) }
+    accepts = λ l w. absurd (let z : _≡_ {A = ℕ} 0 1 = (let q = j .accepts l in cc) in omega arith);
+    cases = inl (j .cases);
+  }
   at-plan (Ok p) h j = elim (image-cases image) [
-      inl k ↦ rw (k .0) (record { accepts = λ l w. j .accepts l; cases = (j .cases .0, k .1, j .cases .1) })
-    | inr k ↦ rw (k .1) (record { accepts = λ l w. absurd (not-whole image (k .0) (k .2) w); cases = inr (j .cases .0, k .2) }) ]
+    | inl k ↦ rw (k .0) (record { accepts = λ l w. j .accepts l; cases = (j .cases .0, k .1, j .cases .1) })
+    | inr k ↦ rw (k .1) (record { accepts = λ l w. absurd (not-whole image (k .0) (k .2) w); cases = inr (j .cases .0, k .2) })
+  ]
 
   pub verdict : Admits bytes image (admitted bytes image)
   unfolding admitted

@@ -14,6 +14,7 @@ use words::bytes::u32_at;
 use words::frames::FRAME_WORDS;
 
 const HEADER: usize = 2;
+
 const FRAME: usize = FRAME_WORDS * 4;
 
 // So many bytes of a file tell all: no count asks for as many, so an image that goes on has bytes after its last frame.
@@ -76,8 +77,7 @@ fn both(plan: &[u8], image: &[u8]) -> Result<Plan, Refusal>
 // A file is not read past its longest image: nothing there changes a verdict or a lent word.
 pub fn laws()
     ensures { λ _. ⌜ Tells-all ⌝ }
-{
-}
+{}
 
 #[cfg(test)]
 mod tests;

@@ -26,19 +26,33 @@ module _ (Broken : Refusal → Type 0) where
   pub chain : (s r : Option Refusal) (m n : ℕ) → m < n → ((d : Refusal) → m < number-of d → Broken d → n ≤ number-of d) →
       Stage s n → After r n → After (or-else s r) m
   chain s r m n l gap here rest = record {
-      kept = λ e d h b. let z = or-none s r e in elim (cases-eq (number-of d) n) [
-          inl same ↦ here .kept (z .0) d same b
-        | inr ne ↦ rest .kept (z .1) d (let g = gap d h b in omega arith) b ];
-      broken = λ e h. elim (or-some s r e h) [
-          inl g ↦ let q = here .broken e g in (q .0, omega (arith, q .1), λ d k b. elim (cases-eq (number-of d) n) [
-              inl same ↦ inr (q .1 ∙ sym same, q .2 d same b)
-            | inr ne ↦ inl (let z = gap d k b in omega (arith, q .1)) ])
-        | inr g ↦ let q = rest .broken e (g .1) in (q .0, omega (arith, q .1), λ d k b. elim (cases-eq (number-of d) n) [
-              inl same ↦ absurd (here .kept (g .0) d same b)
-            | inr ne ↦ q .2 d (let z = gap d k b in omega arith) b ]) ] }
+    kept = λ e d h b. let z = or-none s r e in elim (cases-eq (number-of d) n) [
+      | inl same ↦ here .kept (z .0) d same b
+      | inr ne ↦ rest .kept (z .1) d (let g = gap d h b in omega arith) b
+    ];
+    broken = λ e h. elim (or-some s r e h) [
+      | inl g ↦ let q = here .broken e g in (
+        q .0,
+        omega (arith, q .1),
+        λ d k b. elim (cases-eq (number-of d) n) [
+          | inl same ↦ inr (q .1 ∙ sym same, q .2 d same b)
+          | inr ne ↦ inl (let z = gap d k b in omega (arith, q .1))
+        ],
+      )
+      | inr g ↦ let q = rest .broken e (g .1) in (
+        q .0,
+        omega (arith, q .1),
+        λ d k b. elim (cases-eq (number-of d) n) [
+          | inl same ↦ absurd (here .kept (g .0) d same b)
+          | inr ne ↦ q .2 d (let z = gap d k b in omega arith) b
+        ],
+      )
+    ];
+  }
 
   -- the last rule
   pub last : (s : Option Refusal) (m n : ℕ) → m < n → ((d : Refusal) → m < number-of d → Broken d → number-of d ≡ n) → Stage s n → After s m
   last s m n l only here = record {
-      kept = λ e d h b. here .kept e d (only d h b) b;
-      broken = λ e h. let q = here .broken e h in (q .0, omega (arith, q .1), λ d k b. inr (q .1 ∙ sym (only d k b), q .2 d (only d k b) b)) }
+    kept = λ e d h b. here .kept e d (only d h b) b;
+    broken = λ e h. let q = here .broken e h in (q .0, omega (arith, q .1), λ d k b. inr (q .1 ∙ sym (only d k b), q .2 d (only d k b) b));
+  }

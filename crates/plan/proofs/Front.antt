@@ -22,11 +22,12 @@ use Rattle.plan.proofs.Rows.{rows-same}
 
 abbrev plan-with : List ℕ → Counts → Plan
 plan-with bytes c = record {
-    counts = c;
-    budget = number bytes 3 4;
-    partitions = partitions-in bytes partitions-from (c .partitions);
-    slots = slots-in bytes (slots-from c) (c .slots);
-    channels = channels-in bytes (channels-from c) (c .channels) }
+  counts = c;
+  budget = number bytes 3 4;
+  partitions = partitions-in bytes partitions-from (c .partitions);
+  slots = slots-in bytes (slots-from c) (c .slots);
+  channels = channels-in bytes (channels-from c) (c .channels);
+}
 
 made-same : (c : Counts) (b b′ : ℕ) → b ≡ b′ → (p p′ : List Partition) → p ≡ p′ → (s s′ : List Slot) → s ≡ s′ → (h h′ : List Channel) → h ≡ h′ →
     _≡_ {A = Plan} (record { counts = c; budget = b; partitions = p; slots = s; channels = h }) (record { counts = c; budget = b′; partitions = p′; slots = s′; channels = h′ })
@@ -71,8 +72,8 @@ module _ (bytes : List ℕ) (n : ℕ) (small : (i : ℕ) → byte bytes i < 256)
       let channels = rows-same (channel-row (take n bytes) (channels-from c)) (channel-row bytes (channels-from c)) no-channel 16 (c .channels) channel-front in
       ap (plan-with (take n bytes)) counts-front
       ∙ made-same c (number (take n bytes) 3 4) (number bytes 3 4) budget (partitions-in (take n bytes) partitions-from (c .partitions)) (partitions-in bytes partitions-from (c .partitions)) partitions
-        (slots-in (take n bytes) (slots-from c) (c .slots)) (slots-in bytes (slots-from c) (c .slots)) slots
-        (channels-in (take n bytes) (channels-from c) (c .channels)) (channels-in bytes (channels-from c) (c .channels)) channels
+      (slots-in (take n bytes) (slots-from c) (c .slots)) (slots-in bytes (slots-from c) (c .slots)) slots
+      (channels-in (take n bytes) (channels-from c) (c .channels)) (channels-in bytes (channels-from c) (c .channels)) channels
 
   -- where the file goes on past the front part, neither length is too short, and both are too long
   fault-front : n < length bytes → fault (take n bytes) (plan-of bytes) ≡ fault bytes (plan-of bytes)
@@ -80,11 +81,17 @@ module _ (bytes : List ℕ) (n : ℕ) (small : (i : ℕ) → byte bytes i < 256)
   fault-front l =
       let long = length-take-le n bytes (omega arith) in
       let size = plan-size (counts-of bytes) in
-      rw (long, le-leb size n (omega (arith, size-below)), le-leb size (length bytes) (omega (arith, size-below)),
-          lt-leb n size (omega (arith, size-below)), lt-leb (length bytes) size (omega (arith, size-below))) refl
+      rw (
+        long,
+        le-leb size n (omega (arith, size-below)),
+        le-leb size (length bytes) (omega (arith, size-below)),
+        lt-leb n size (omega (arith, size-below)),
+        lt-leb (length bytes) size (omega (arith, size-below)),
+      ) refl
 
 pub tells-all : Tells-all
 unfolding parsed
 tells-all bytes n small enough = elim (cases-lt n (length bytes)) [
-    inl l ↦ rw (plan-front bytes n small enough, fault-front bytes n small enough l)
-  | inr l ↦ rw (take-all n bytes l) ]
+  | inl l ↦ rw (plan-front bytes n small enough, fault-front bytes n small enough l)
+  | inr l ↦ rw (take-all n bytes l)
+]

@@ -81,13 +81,14 @@ module _ (bytes : List ℕ) where
   kept-lawful : ((d : Refusal) → Broken bytes d → ⊥) → Lawful bytes
   unfolding Broken
   kept-lawful h = record {
-      whole = elim (cases-lt (length bytes) (plan-size (plan-of bytes .counts))) [ inl l ↦ absurd (h (Truncated (length bytes)) (l, refl)) | inr l ↦ l ];
-      counts = λ c. decided (count-kept (plan-of bytes .counts) c) (count-decides (plan-of bytes) c) (h (CountRange c));
-      slots = λ k l. decided (slot-kept (plan-of bytes) k) (slot-decides (plan-of bytes) k) (λ f. h (SlotRule k) (l, f));
-      channels = λ k l. decided (channel-kept (plan-of bytes) k) (channel-decides (plan-of bytes) k) (λ f. h (ChannelRule k) (l, f));
-      starts = λ k l. decided (start-kept (plan-of bytes) k) (start-decides (plan-of bytes) k) (λ f. h (StartMisaligned k) (l, f));
-      budget = decided (budget-kept (plan-of bytes)) (budget-decides (plan-of bytes)) (h BudgetRule);
-      no-surplus = elim (cases-lt (plan-size (plan-of bytes .counts)) (length bytes)) [ inl l ↦ absurd (h (Surplus (plan-size (plan-of bytes .counts))) (l, refl)) | inr l ↦ l ] }
+    whole = elim (cases-lt (length bytes) (plan-size (plan-of bytes .counts))) [ inl l ↦ absurd (h (Truncated (length bytes)) (l, refl)) | inr l ↦ l ];
+    counts = λ c. decided (count-kept (plan-of bytes .counts) c) (count-decides (plan-of bytes) c) (h (CountRange c));
+    slots = λ k l. decided (slot-kept (plan-of bytes) k) (slot-decides (plan-of bytes) k) (λ f. h (SlotRule k) (l, f));
+    channels = λ k l. decided (channel-kept (plan-of bytes) k) (channel-decides (plan-of bytes) k) (λ f. h (ChannelRule k) (l, f));
+    starts = λ k l. decided (start-kept (plan-of bytes) k) (start-decides (plan-of bytes) k) (λ f. h (StartMisaligned k) (l, f));
+    budget = decided (budget-kept (plan-of bytes)) (budget-decides (plan-of bytes)) (h BudgetRule);
+    no-surplus = elim (cases-lt (plan-size (plan-of bytes .counts)) (length bytes)) [ inl l ↦ absurd (h (Surplus (plan-size (plan-of bytes .counts))) (l, refl)) | inr l ↦ l ];
+  }
 
   judged-at : (o : Option Refusal) → fault bytes (plan-of bytes) ≡ o → Judges bytes (parsed bytes)
   unfolding parsed

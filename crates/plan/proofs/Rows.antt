@@ -32,8 +32,9 @@ module _ {X : Type 0} (at : ℕ → X) (blank : X) (room : ℕ) where
 
   more : (i : ℕ) → i < room → set (rows at blank room i) i (at i) ≡ rows at blank room (i + 1)
   more i l = same-rows (set (rows at blank room i) i (at i)) (i + 1) (length-set (rows at blank room i) i (at i) ∙ length-rows i) (λ k h. elim (cases-eq k i) [
-      inl e ↦ rw e (getD-set-same (rows at blank room i) i (at i) blank (omega (arith, length-rows i)) ∙ sym (cond-true (ltb i (i + 1)) (at i) blank (lt-ltb i (i + 1) (omega arith))))
-    | inr ne ↦ getD-set-other (rows at blank room i) i k (at i) blank ne ∙ rows-at i k h ∙ (let same : ltb k i ≡ ltb k (i + 1) = grind (arith, tells) in rw same) ])
+    | inl e ↦ rw e (getD-set-same (rows at blank room i) i (at i) blank (omega (arith, length-rows i)) ∙ sym (cond-true (ltb i (i + 1)) (at i) blank (lt-ltb i (i + 1) (omega arith))))
+    | inr ne ↦ getD-set-other (rows at blank room i) i k (at i) blank ne ∙ rows-at i k h ∙ (let same : ltb k i ≡ ltb k (i + 1) = grind (arith, tells) in rw same)
+  ])
 
   all : (many : ℕ) → rows at blank room (min room many) ≡ rows at blank room many
   all many = same-rows (rows at blank room (min room many)) many (length-rows (min room many)) (λ k l. rows-at (min room many) k l ∙ (let same : ltb k (min room many) ≡ ltb k many = grind (arith, tells) in rw same))

@@ -55,10 +55,13 @@ module _ (B : Refusal → Type 0) (n : ℕ) where
   single : (kept : Bool) (e : Refusal) → number-of e ≡ n → ((d : Refusal) → number-of d ≡ n → B d → d ≡ e) →
       (kept ≡ true → B e → ⊥) → (kept ≡ false → B e) → Stage B (broken-unless kept e) n
   single kept e num only no-fault faulty = record {
-      kept = λ h d k b. no-fault (passed kept e h) (subst B (only d k b) b);
-      broken = λ d h. let z = failed kept e d h in
-        (subst B (sym (z .1)) (faulty (z .0)), ap number-of (z .1) ∙ num,
-         λ c k b. (let s : d ≡ c = z .1 ∙ sym (only c k b) in subst (λ x. place-of d ≤ place-of x) s (omega arith))) }
+    kept = λ h d k b. no-fault (passed kept e h) (subst B (only d k b) b);
+    broken = λ d h. let z = failed kept e d h in (
+      subst B (sym (z .1)) (faulty (z .0)),
+      ap number-of (z .1) ∙ num,
+      λ c k b. (let s : d ≡ c = z .1 ∙ sym (only c k b) in subst (λ x. place-of d ≤ place-of x) s (omega arith)),
+    );
+  }
 
   -- a rule with many places, each decided by a test
   module _ (many : ℕ) (E : ℕ → Refusal) (test : ℕ → Bool) (Fits : ℕ → Type 0)
@@ -67,21 +70,23 @@ module _ (B : Refusal → Type 0) (n : ℕ) where
       (decides : (k : ℕ) → Decides (test k) (Fits k))
       (faulty : (k : ℕ) → k < many → (Fits k → ⊥) → B (E k))
       (fault-of : (d : Refusal) → number-of d ≡ n → B d → (place-of d < many) × (Fits (place-of d) → ⊥)) where
-
     fits : (k : ℕ) → broken-unless (test k) (E k) ≡ None → Fits k
     fits k h = decides k .0 (passed (test k) (E k) h)
 
     each : Stage B (first (λ k. broken-unless (test k) (E k)) many) n
     each = record {
-        kept = λ h d k b. let z = fault-of d k b in z .1 (fits (place-of d) (none-below (λ k. broken-unless (test k) (E k)) many h (place-of d) (z .0)));
-        broken = λ e h.
+      kept = λ h d k b. let z = fault-of d k b in z .1 (fits (place-of d) (none-below (λ k. broken-unless (test k) (E k)) many h (place-of d) (z .0)));
+      broken = λ e h.
           let z = first-is (λ k. broken-unless (test k) (E k)) many e h in
-          let f = failed (test (z .0)) (E (z .0)) e (z .2) in
-          (subst B (sym (f .1)) (faulty (z .0) (z .1) (λ g. both-ways (test (z .0)) (f .0) (decides (z .0) .1 g))),
-           ap number-of (f .1) ∙ num (z .0),
-           λ d k b. (let w = fault-of d k b in elim (cases-lt (place-of d) (z .0)) [
-               inl l ↦ absurd (w .1 (fits (place-of d) (z .3 (place-of d) l)))
-             | inr l ↦ let p : place-of e ≡ z .0 = ap place-of (f .1) ∙ place (z .0) (z .1) in omega arith ])) }
+          let f = failed (test (z .0)) (E (z .0)) e (z .2) in (
+            subst B (sym (f .1)) (faulty (z .0) (z .1) (λ g. both-ways (test (z .0)) (f .0) (decides (z .0) .1 g))),
+            ap number-of (f .1) ∙ num (z .0),
+            λ d k b. (let w = fault-of d k b in elim (cases-lt (place-of d) (z .0)) [
+              | inl l ↦ absurd (w .1 (fits (place-of d) (z .3 (place-of d) l)))
+              | inr l ↦ let p : place-of e ≡ z .0 = ap place-of (f .1) ∙ place (z .0) (z .1) in omega arith
+            ]),
+          );
+    }
 
 pub count-decides : (p : Plan) (c : Count) → Decides (count-kept (p .counts) c) (Count-fits p c)
 count-decides p Partitions = ((λ e. (grind (arith, tells), grind (arith, tells))), λ f. grind (arith, tells))
@@ -102,10 +107,12 @@ budget-decides p = ((λ e. (grind (arith, tells), grind (arith, tells), grind (a
 
 count-place-at : (k : ℕ) → k < 3 → place-of (CountRange (count-at k)) ≡ k
 count-place-at k l = elim (cases-eq k 0) [
-    inl e ↦ rw e refl
+  | inl e ↦ rw e refl
   | inr a ↦ elim (cases-eq k 1) [
-        inl e ↦ rw e refl
-      | inr b ↦ let e : k ≡ 2 = omega arith in rw e refl ] ]
+    | inl e ↦ rw e refl
+    | inr b ↦ let e : k ≡ 2 = omega arith in rw e refl
+  ]
+]
 
 count-place-below : (c : Count) → place-of (CountRange c) < 3
 count-place-below Partitions = omega arith
@@ -126,7 +133,7 @@ module _ (bytes : List ℕ) where
       (λ k. refl) count-place-at (λ d h. at-number d 2 h) (λ k. count-decides (plan-of bytes) (count-at k))
       (λ k l f. f)
       (λ d h b. let is = at-number d 2 h in
-        (subst (λ x. x < 3) (sym (ap place-of is)) (count-place-below (count-at (place-of d))), subst (Broken bytes) is b))
+      (subst (λ x. x < 3) (sym (ap place-of is)) (count-place-below (count-at (place-of d))), subst (Broken bytes) is b))
 
   pub slots-stage : Stage (Broken bytes) (first (slot-fault (plan-of bytes)) (plan-of bytes .counts .slots)) 3
   unfolding Broken

@@ -33,7 +33,8 @@ timely bytes p e =
     rw (z .1) (record {
       some = omega (arith, z .0 .counts Slots);
       lengths = λ k l. z .0 .slots k l .2;
-      budget = z .0 .budget .1 })
+      budget = z .0 .budget .1;
+    })
 
 module _ (p : Plan) (t : Timely p) where
   turn-length : (n : ℕ) → slot-of p n .length ≤ 1000000

@@ -40,8 +40,9 @@ slot-at bytes at = record { partition = byte bytes at; length = number bytes (at
 -- sender and receiver in one byte each, their virtual pages in four each
 abbrev pub channel-at : List ℕ → ℕ → Channel
 channel-at bytes at = record {
-    sender = record { partition = byte bytes at; page = number bytes (at + 2) 4 };
-    receiver = record { partition = byte bytes (at + 1); page = number bytes (at + 6) 4 } }
+  sender = record { partition = byte bytes at; page = number bytes (at + 2) 4 };
+  receiver = record { partition = byte bytes (at + 1); page = number bytes (at + 6) 4 };
+}
 
 -- what stands past a count
 abbrev pub no-partition : Partition
@@ -78,8 +79,9 @@ channels-in bytes start many = rows (channel-row bytes start) no-channel 16 many
 -- the plan that the bytes say
 unfoldable pub plan-of : List ℕ → Plan
 plan-of bytes = let c = counts-of bytes in record {
-    counts = c;
-    budget = number bytes 3 4;
-    partitions = partitions-in bytes partitions-from (c .partitions);
-    slots = slots-in bytes (slots-from c) (c .slots);
-    channels = channels-in bytes (channels-from c) (c .channels) }
+  counts = c;
+  budget = number bytes 3 4;
+  partitions = partitions-in bytes partitions-from (c .partitions);
+  slots = slots-in bytes (slots-from c) (c .slots);
+  channels = channels-in bytes (channels-from c) (c .channels);
+}

@@ -10,8 +10,11 @@ use words::bytes::u16_at;
 use words::bytes::u32_at;
 
 const HEADER: usize = 7;
+
 const PARTITION: usize = 6;
+
 const SLOT: usize = 5;
+
 const CHANNEL: usize = 10;
 
 // So many bytes of a file tell all: no counts ask for as many, so a plan that goes on has bytes after its end.
@@ -26,7 +29,11 @@ impl Counts {
     pub fn read(bytes: &[u8]) -> Counts
         ensures { λ r. ⌜ r ≡ counts-of (now (bytes .entry)) ⌝ }
     {
-        Counts { partitions: byte_at(bytes, 0), slots: byte_at(bytes, 1), channels: byte_at(bytes, 2) }
+        Counts {
+            partitions: byte_at(bytes, 0),
+            slots: byte_at(bytes, 1),
+            channels: byte_at(bytes, 2),
+        }
     }
 
     fn slots_from(self) -> usize
@@ -56,31 +63,55 @@ impl Partition {
         requires { ⌜ at < 2 ^ 32 ⌝ }
         ensures { λ r. ⌜ r ≡ partition-at (now (bytes .entry)) at ⌝ }
     {
-        Partition { root: u16_at(bytes, at), start: u32_at(bytes, at + 2) }
+        Partition {
+            root: u16_at(bytes, at),
+            start: u32_at(bytes, at + 2),
+        }
     }
 }
 
 impl Slot {
-    pub(crate) const NONE: Slot = Slot { partition: 0, length: 0 };
+    pub(crate) const NONE: Slot = Slot {
+        partition: 0,
+        length: 0,
+    };
 
     fn read(bytes: &[u8], at: usize) -> Slot
         requires { ⌜ at < 2 ^ 32 ⌝ }
         ensures { λ r. ⌜ r ≡ slot-at (now (bytes .entry)) at ⌝ }
     {
-        Slot { partition: byte_at(bytes, at), length: u32_at(bytes, at + 1) }
+        Slot {
+            partition: byte_at(bytes, at),
+            length: u32_at(bytes, at + 1),
+        }
     }
 }
 
 impl Channel {
-    pub(crate) const NONE: Channel = Channel { sender: Endpoint { partition: 0, page: 0 }, receiver: Endpoint { partition: 0, page: 0 } };
+    pub(crate) const NONE: Channel = Channel {
+        sender: Endpoint {
+            partition: 0,
+            page: 0,
+        },
+        receiver: Endpoint {
+            partition: 0,
+            page: 0,
+        },
+    };
 
     fn read(bytes: &[u8], at: usize) -> Channel
         requires { ⌜ at < 2 ^ 32 ⌝ }
         ensures { λ r. ⌜ r ≡ channel-at (now (bytes .entry)) at ⌝ }
     {
         Channel {
-            sender: Endpoint { partition: byte_at(bytes, at), page: u32_at(bytes, at + 2) },
-            receiver: Endpoint { partition: byte_at(bytes, at + 1), page: u32_at(bytes, at + 6) },
+            sender: Endpoint {
+                partition: byte_at(bytes, at),
+                page: u32_at(bytes, at + 2),
+            },
+            receiver: Endpoint {
+                partition: byte_at(bytes, at + 1),
+                page: u32_at(bytes, at + 6),
+            },
         }
     }
 }

@@ -11,5 +11,4 @@ pub fn laws()
     ensures bounded { λ _. ⌜ Bounded ⌝ }
     ensures tells_all { λ _. ⌜ Tells-all ⌝ }
     ensures example { λ _. ⌜ Example ⌝ }
-{
-}
+{}

@@ -4,6 +4,6 @@ pub mod laws;
 pub mod model;
 pub mod refusal;
 pub mod rules;
-pub mod timetable;
 #[cfg(test)]
 mod tests;
+pub mod timetable;

@@ -1,6 +1,8 @@
 // A plan as structs and fixed arrays. Places past a count hold the blank of their kind.
 pub const MOST_PARTITIONS: usize = 8;
+
 pub const MOST_SLOTS: usize = 64;
+
 pub const MOST_CHANNELS: usize = 16;
 
 // How many there are of each.

@@ -2,7 +2,6 @@
 ghost use mathlib.Core.Path.{_≡_};
 ghost use Rattle.std.specs.declared.option.Option.the-variants.{Some};
 ghost use Rattle.plan.specs.Refused.{number-of, place-of, refusal-text};
-
 use std::fmt;
 
 #[derive(Clone, Copy)]

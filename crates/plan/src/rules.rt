@@ -10,8 +10,11 @@ use crate::refusal::Refusal;
 use words::costs;
 
 const SHORTEST_SLOT: u32 = 128;
+
 const LONGEST_SLOT: u32 = 1_000_000;
+
 const LEAST_BUDGET: u32 = 64;
+
 const MOST_BUDGET: u32 = 100_000;
 
 fn row<T: Copy>(rows: &[T], k: usize, none: T) -> T
@@ -63,7 +66,10 @@ impl Plan {
         ensures { λ r. ⌜ r ≡ unless (slot-fault (now (self .entry)) k) tt ⌝ }
     {
         let slot = self.slot(k as usize);
-        if slot.partition >= self.counts.partitions || slot.length < SHORTEST_SLOT || slot.length > LONGEST_SLOT {
+        if slot.partition >= self.counts.partitions
+            || slot.length < SHORTEST_SLOT
+            || slot.length > LONGEST_SLOT
+        {
             return Err(Refusal::SlotRule(k));
         }
         Ok(())
@@ -83,7 +89,10 @@ impl Plan {
     {
         let Channel { sender, receiver } = self.channel(k as usize);
         let partitions = self.counts.partitions;
-        if sender.partition >= partitions || receiver.partition >= partitions || sender.partition == receiver.partition {
+        if sender.partition >= partitions
+            || receiver.partition >= partitions
+            || sender.partition == receiver.partition
+        {
             return Err(Refusal::ChannelRule(k));
         }
         Ok(())
@@ -150,7 +159,10 @@ impl Plan {
     fn check_budget(&self) -> Result<(), Refusal>
         ensures { λ r. ⌜ r ≡ unless (budget-fault (now (self .entry))) tt ⌝ }
     {
-        if self.budget < LEAST_BUDGET || self.budget > MOST_BUDGET || self.budget < self.ample_budget() {
+        if self.budget < LEAST_BUDGET
+            || self.budget > MOST_BUDGET
+            || self.budget < self.ample_budget()
+        {
             return Err(Refusal::BudgetRule);
         }
         Ok(())

@@ -4,12 +4,45 @@ use std::test::*;
 
 // two partitions, slots of 128 and 1,000,000 cycles, a channel from 0 to 1, and the least budget that is ample with it, 1,754
 const PLAN: [u8; 39] = [
-    2, 2, 1, 0xda, 0x06, 0, 0, //
-    0, 0, 0, 0, 1, 0, //
-    3, 0, 4, 0, 1, 0, //
-    0, 128, 0, 0, 0, //
-    1, 0x40, 0x42, 0x0f, 0, //
-    0, 1, 17, 0, 0, 0, 18, 0, 0, 0,
+    2,
+    2,
+    1,
+    0xda,
+    0x06,
+    0,
+    0, //
+    0,
+    0,
+    0,
+    0,
+    1,
+    0, //
+    3,
+    0,
+    4,
+    0,
+    1,
+    0, //
+    0,
+    128,
+    0,
+    0,
+    0, //
+    1,
+    0x40,
+    0x42,
+    0x0f,
+    0, //
+    0,
+    1,
+    17,
+    0,
+    0,
+    0,
+    18,
+    0,
+    0,
+    0,
 ];
 
 // Number and place of the refusal, 0 and 0 where the plan is accepted.
@@ -92,7 +125,12 @@ fn bytes_too_few_and_too_many() -> Result<(), Fail> {
 
 #[test]
 fn counts_past_their_range() -> Result<(), Fail> {
-    for (counts, number, place) in [([9, 64, 16], 2, 0), ([8, 65, 16], 2, 1), ([8, 64, 17], 2, 2), ([8, 64, 16], 3, 0)] {
+    for (counts, number, place) in [
+        ([9, 64, 16], 2, 0),
+        ([8, 65, 16], 2, 1),
+        ([8, 64, 17], 2, 2),
+        ([8, 64, 16], 3, 0),
+    ] {
         let mut bytes = [0; 700];
         bytes[0..3].copy_from_slice(&counts);
         check_eq(verdict(&bytes), (number, place))?;
@@ -115,7 +153,10 @@ fn budgets() -> Result<(), Fail> {
         plan[3..7].copy_from_slice(&budget.to_le_bytes());
         check_eq(verdict(&plan), if ample_with { (0, 0) } else { (10, 3) })?;
         plan[2] = 0;
-        check_eq(verdict(&plan[0..29]), if ample_without { (0, 0) } else { (10, 3) })?;
+        check_eq(
+            verdict(&plan[0..29]),
+            if ample_without { (0, 0) } else { (10, 3) },
+        )?;
     }
     Ok(())
 }
@@ -129,8 +170,36 @@ fn turns_end_before_they_wrap() -> Result<(), Fail> {
     check_eq((second.number, second.begin), (1, 128 + 1754))?;
     check_eq(second.slot(&plan).partition, 1)?;
     let latest = u64::MAX - (128 + 1754);
-    check(Turn { number: 0, begin: latest }.next(&plan).is_some())?;
-    check(Turn { number: 0, begin: latest + 1 }.next(&plan).is_none())?;
-    check(Turn { number: u32::MAX - 1, begin: 0 }.next(&plan).is_some())?;
-    check(Turn { number: u32::MAX, begin: 0 }.next(&plan).is_none())
+    check(
+        Turn {
+            number: 0,
+            begin: latest,
+        }
+            .next(&plan)
+            .is_some(),
+    )?;
+    check(
+        Turn {
+            number: 0,
+            begin: latest + 1,
+        }
+            .next(&plan)
+            .is_none(),
+    )?;
+    check(
+        Turn {
+            number: u32::MAX - 1,
+            begin: 0,
+        }
+            .next(&plan)
+            .is_some(),
+    )?;
+    check(
+        Turn {
+            number: u32::MAX,
+            begin: 0,
+        }
+            .next(&plan)
+            .is_none(),
+    )
 }

@@ -5,6 +5,9 @@ use console::arguments::asks_help;
 use console::arguments::at_most;
 use console::files::read_up_to;
 use console::problem::Problem;
+use console::problem::ProblemFromAlloc;
+use console::problem::ProblemFromIo;
+use console::problem::ProblemFromRefusal;
 use console::problem::Program;
 use plan::model::Plan;
 use plan::timetable::Turn;
@@ -12,11 +15,11 @@ use std::io;
 use std::io::BufWriter;
 use std::io::Write;
 use words::bytes::u32_at;
-use console::problem::ProblemFromAlloc;
-use console::problem::ProblemFromIo;
-use console::problem::ProblemFromRefusal;
 
-const PROGRAM: Program = Program { name: "run", usage: "run PLAN IMAGE SLOTS, or run PLAN IMAGE --slots N" };
+const PROGRAM: Program = Program {
+    name: "run",
+    usage: "run PLAN IMAGE SLOTS, or run PLAN IMAGE --slots N",
+};
 
 fn main(rt: LibcRuntime) -> Result<(), ()> {
     PROGRAM.ended(&rt, run(&rt))

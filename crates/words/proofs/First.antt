@@ -41,8 +41,9 @@ module _ {X : Type 0} (f : ℕ → Option X) where
   unfolding first
   first-stays i zero e l none bad = absurd (omega arith)
   first-stays i (suc n) e l none bad = elim (cases-lt i n) [
-      inl h ↦ rw (first-stays i n e h none bad)
-    | inr h ↦ let s : n ≡ i = omega arith in rw s (rw none bad) ]
+    | inl h ↦ rw (first-stays i n e h none bad)
+    | inr h ↦ let s : n ≡ i = omega arith in rw s (rw none bad)
+  ]
 
   -- a loop whose turn is `check(i)?`: its next turn, its exit and its end
   pub checked-more : {Y : Type 0} (i : ℕ) (y z : Y) → first f i ≡ None → unless (f i) y ≡ Ok z → first f (i + 1) ≡ None
@@ -58,8 +59,9 @@ module _ {X : Type 0} (f : ℕ → Option X) where
   unfolding first
   none-below zero e k l = absurd (omega arith)
   none-below (suc n) e k l = let z = or-none (first f n) (f n) e in elim (cases-lt k n) [
-      inl h ↦ none-below n (z .0) k h
-    | inr h ↦ let s : k ≡ n = omega arith in rw s (z .1) ]
+    | inl h ↦ none-below n (z .0) k h
+    | inr h ↦ let s : k ≡ n = omega arith in rw s (z .1)
+  ]
 
   pub below-none : (n : ℕ) → ((k : ℕ) → k < n → f k ≡ None) → first f n ≡ None
   unfolding first
@@ -70,8 +72,9 @@ module _ {X : Type 0} (f : ℕ → Option X) where
   unfolding first
   first-is zero e h = absurd (let z : _≡_ {A = ℕ} 0 1 = cc in omega arith)
   first-is (suc n) e h = elim (or-some (first f n) (f n) e h) [
-      inl g ↦ let z = first-is n e g in (z .0, omega (arith, z .1), z .2, z .3)
-    | inr g ↦ (n, omega arith, g .1, none-below n (g .0)) ]
+    | inl g ↦ let z = first-is n e g in (z .0, omega (arith, z .1), z .2, z .3)
+    | inr g ↦ (n, omega arith, g .1, none-below n (g .0))
+  ]
 
 module _ (f : ℕ → Bool) where
   pub count-none : count f 0 ≡ 0
@@ -86,8 +89,9 @@ module _ (f : ℕ → Bool) where
   unfolding count
   count-at-most zero = omega arith
   count-at-most (suc n) = elim (cases-bool (f n)) [
-      inl e ↦ simp e (omega (arith, count-at-most n))
-    | inr e ↦ simp e (omega (arith, count-at-most n)) ]
+    | inl e ↦ simp e (omega (arith, count-at-most n))
+    | inr e ↦ simp e (omega (arith, count-at-most n))
+  ]
 
 module _ (f : ℕ → ℕ) where
   pub most-none : most f 0 ≡ 0
@@ -102,8 +106,9 @@ module _ (f : ℕ → ℕ) where
   unfolding most
   most-bound zero k l = absurd (omega arith)
   most-bound (suc n) k l = elim (cases-lt k n) [
-      inl h ↦ omega (arith, most-bound n k h)
-    | inr h ↦ let s : k ≡ n = omega arith in rw s (omega arith) ]
+    | inl h ↦ omega (arith, most-bound n k h)
+    | inr h ↦ let s : k ≡ n = omega arith in rw s (omega arith)
+  ]
 
   pub most-below : (n bound : ℕ) → ((k : ℕ) → k < n → f k ≤ bound) → most f n ≤ bound
   unfolding most

@@ -22,9 +22,10 @@ length-contents ws frame h = omega (arith, length-between ws (frame * 1024) (fra
 
 pub reads-back : Reads-back
 reads-back ws frame offset value = record {
-    back = λ h. getD-set-same ws (frame * 1024 + offset) value 0 h;
-    others = λ i h. getD-set-other ws (frame * 1024 + offset) i value 0 h;
-    as-many = length-set ws (frame * 1024 + offset) value }
+  back = λ h. getD-set-same ws (frame * 1024 + offset) value 0 h;
+  others = λ i h. getD-set-other ws (frame * 1024 + offset) i value 0 h;
+  as-many = length-set ws (frame * 1024 + offset) value;
+}
 
 -- a part of n places from a on, written over by the first n of s
 module _ (d s : List ℕ) (a n : ℕ) (room : a + n ≤ length d) (enough : n ≤ length s) where
@@ -49,12 +50,13 @@ module _ (d s : List ℕ) (a n : ℕ) (room : a + n ≤ length d) (enough : n �
 
 outside : (frame to k : ℕ) → k < 1024 → frame ≢ to → (frame * 1024 + k < to * 1024) ⊎ (to * 1024 + 1024 ≤ frame * 1024 + k)
 outside frame to k l ne = elim (cases-lt frame to) [
-    inl h ↦ inl (omega arith)
-  | inr h ↦ inr (let apart : frame ≡ to → ⊥ = ne in omega arith) ]
+  | inl h ↦ inl (omega arith)
+  | inr h ↦ inr (let apart : frame ≡ to → ⊥ = ne in omega arith)
+]
 
 pub copies : Copies
 copies ws from to = elim (cases-bool (lent ws from && lent ws to)) [
-    inl e ↦
+  | inl e ↦
       let both = and-parts (lent ws from) (lent ws to) e in
       let source = contents ws from in
       let room = lent-room ws to (both .1) in
@@ -64,11 +66,14 @@ copies ws from to = elim (cases-bool (lent ws from && lent ws to)) [
         there = λ _ _ k l. rw is (paste-in ws source (to * 1024) 1024 room enough k l ∙ getD-between ws (from * 1024) (from * 1024 + 1024) k 0 (omega arith));
         others = λ frame k l ne. rw is (paste-out ws source (to * 1024) 1024 room enough (frame * 1024 + k) (outside frame to k l ne));
         as-many = rw is (length-paste ws (to * 1024) source 1024 room enough);
-        not-lent = λ h. absurd (both-ways (lent ws from && lent ws to) h e) }
+        not-lent = λ h. absurd (both-ways (lent ws from && lent ws to) h e);
+      }
   | inr e ↦
       let is : copied ws from to ≡ ws = simp e in
       record {
         there = λ a b. absurd (both-ways (lent ws from && lent ws to) e (and-from (lent ws from) (lent ws to) a b));
         others = λ frame k l ne. rw is;
         as-many = rw is;
-        not-lent = λ _. is } ]
+        not-lent = λ _. is;
+      }
+]

@@ -37,7 +37,7 @@ low-byte-first bytes at count k h l =
     let size : k + (count - k) ≡ count = omega arith in
     let left : suc (count - k - 1) ≡ count - k = omega arith in
     let parts : number bytes at count ≡ 256 ^ k * rest + number bytes at k =
-        subst (λ (n : ℕ). number bytes at n ≡ 256 ^ k * rest + number bytes at k) size (omega (arith, number-split bytes at k (count - k))) in
+    subst (λ (n : ℕ). number bytes at n ≡ 256 ^ k * rest + number bytes at k) size (omega (arith, number-split bytes at k (count - k))) in
     let head : rest ≡ byte bytes (at + k) + 256 * tail = subst (λ (n : ℕ). number bytes (at + k) n ≡ byte bytes (at + k) + 256 * tail) left refl in
     let low : number bytes at k < 256 ^ k = number-below bytes at k h in
     let pos : 0 < 256 ^ k = omega arith in

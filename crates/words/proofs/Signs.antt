@@ -23,10 +23,11 @@ fields-join w low m n =
 halves : (half span x : ℕ) → span ≡ 2 * half → x < span → (z : ℤ) → z ≡ cond (ltb (2 * x) span) (pos x) (pos x -ℤ pos span) →
     (negℤ (pos half) ≤ℤ z) × (z <ℤ pos half) × ((z ≡ pos x) ⊎ (z +ℤ pos span ≡ pos x))
 halves half span x s l z e = elim (cases-lt (2 * x) span) [
-    inl h ↦ let is : z ≡ pos x = e ∙ cond-true _ _ _ (lt-ltb (2 * x) span h) in
+  | inl h ↦ let is : z ≡ pos x = e ∙ cond-true _ _ _ (lt-ltb (2 * x) span h) in
       rw is (omega (arith, ints), omega (arith, ints), inl refl)
   | inr h ↦ let is : z ≡ pos x -ℤ pos span = e ∙ cond-false _ _ _ (le-ltb (2 * x) span h) in
-      rw is (omega (arith, ints), omega (arith, ints), inr (omega (arith, ints))) ]
+      rw is (omega (arith, ints), omega (arith, ints), inr (omega (arith, ints)))
+]
 
 pub signs : Signs
 signs zero w h = absurd (omega arith)

@@ -19,7 +19,11 @@ fn shifted(word: u32, low: u32) -> u32
 fn low_bits(word: u32, count: u32) -> u32
     ensures { λ r. ⌜ r ≡ word % 2 ^ count ⌝ }
 {
-    if count < 32 { word & ((1 << count) - 1) } else { word }
+    if count < 32 {
+        word & ((1 << count) - 1)
+    } else {
+        word
+    }
 }
 
 // What the low `width` bits of `word` stand for in two's complement. A width above 32 counts as 32.
@@ -31,5 +35,9 @@ pub fn sign_extended(word: u32, width: u32) -> i32
     }
     let value = i64::from(bits(word, 0, width));
     let span = 1i64 << width;
-    if 2 * value < span { value as i32 } else { (value - span) as i32 }
+    if 2 * value < span {
+        value as i32
+    } else {
+        (value - span) as i32
+    }
 }

@@ -29,5 +29,10 @@ pub fn u32_at(bytes: &[u8], at: usize) -> u32
     let second = at + 1;
     let third = second + 1;
     let fourth = third + 1;
-    u32::from_le_bytes([bytes[at], byte_at(bytes, second), byte_at(bytes, third), byte_at(bytes, fourth)])
+    u32::from_le_bytes([
+        bytes[at],
+        byte_at(bytes, second),
+        byte_at(bytes, third),
+        byte_at(bytes, fourth),
+    ])
 }

@@ -7,5 +7,4 @@ pub fn laws()
     ensures signs { λ _. ⌜ Signs ⌝ }
     ensures writes { λ _. ⌜ Reads-back ⌝ }
     ensures copies { λ _. ⌜ Copies ⌝ }
-{
-}
+{}
