@@ -21,7 +21,13 @@ permitted leaf Fetch = leaf .executable
 permitted leaf Load = leaf .readable
 permitted leaf Store = leaf .readable && leaf .writable
 
--- the byte of the leaf's frame that the low twelve bits of the address tell
+-- the byte of the leaf's frame that the low twelve bits of an address tell
+abbrev pub place-at : Leaf → ℕ → Place
+place-at leaf address = record { frame = leaf .frame; offset = address % 4096 }
+
+abbrev pub page-fault : Access → PageFault
+page-fault access = record { access = access }
+
+-- what an access to an address comes to, where its page has the leaf
 abbrev pub place-through : Leaf → ℕ → Access → Result Place PageFault
-place-through leaf address access =
-    cond (permitted leaf access) (Ok (record { frame = leaf .frame; offset = address % 4096 })) (Err (record { access = access }))
+place-through leaf address access = cond (permitted leaf access) (Ok (place-at leaf address)) (Err (page-fault access))

@@ -49,9 +49,10 @@ is-pointer entry = is-valid entry && not (grants entry)
 unfoldable pub is-leaf : ℕ → Bool
 is-leaf entry = is-valid entry && (grants entry && (is-user entry && (is-accessed entry && is-dirty entry)))
 
+-- the frame that an entry names, with its R, W and X
+abbrev pub fields : ℕ → Leaf
+fields entry = record { frame = frame-of entry; readable = is-readable entry; writable = is-writable entry; executable = is-executable entry }
+
 -- the leaf that an entry is; W without R is reserved
 unfoldable pub leaf-of : ℕ → Option Leaf
-leaf-of entry =
-    cond (is-leaf entry && (is-readable entry || not (is-writable entry)))
-    (Some (record { frame = frame-of entry; readable = is-readable entry; writable = is-writable entry; executable = is-executable entry }))
-    None
+leaf-of entry = cond (is-leaf entry && (is-readable entry || not (is-writable entry))) (Some (fields entry)) None

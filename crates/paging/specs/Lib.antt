@@ -1,3 +1,4 @@
 pub mod Accesses
 pub mod Entries
 pub mod Walks
+pub mod Mapping

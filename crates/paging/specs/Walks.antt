@@ -12,7 +12,7 @@ use Rattle.paging.specs.declared.access.Access.{Access}
 use Rattle.paging.specs.declared.leaf.Leaf.{Leaf}
 use Rattle.paging.specs.declared.leaf.PageFault.{PageFault}
 use Rattle.paging.specs.declared.leaf.Place.{Place}
-use Rattle.paging.specs.Accesses.{place-through}
+use Rattle.paging.specs.Accesses.{page-fault, place-through}
 use Rattle.paging.specs.Entries.{frame-of, is-pointer, leaf-of}
 
 -- whether a walk may go to a frame: below 256, and lent
@@ -42,7 +42,7 @@ unfoldable pub walked : List ℕ → ℕ → ℕ → Option Leaf
 walked words root page = then-leaf words page (table-under words root page)
 
 abbrev pub then-place : ℕ → Access → Option Leaf → Result Place PageFault
-then-place address access None = Err (record { access = access })
+then-place address access None = Err (page-fault access)
 then-place address access (Some leaf) = place-through leaf address access
 
 -- the place that an access to an address reaches, or its fault

@@ -1,5 +1,6 @@
 // The walk: an entry of the root frame points to a table, and an entry of the table is the leaf.
 ghost use mathlib.Core.Path.{_≡_};
+ghost use Rattle.paging.specs.Mapping.{Finds};
 ghost use Rattle.paging.specs.Walks.{has-frame, leaf-in, table-under, walked};
 use crate::entry::Entry;
 use crate::leaf::Leaf;
@@ -36,7 +37,8 @@ fn leaf_in(words: &[u32], table: u32, page: u32) -> Option<Leaf>
 
 // The leaf of a page under a root frame, or none where the walk faults.
 pub fn walk(words: &[u32], root: u32, page: u32) -> Option<Leaf>
-    ensures { λ r. ⌜ r ≡ walked (now (words .entry)) root page ⌝ }
+    ensures value { λ r. ⌜ r ≡ walked (now (words .entry)) root page ⌝ }
+    ensures finds { λ r. ⌜ Finds (now (words .entry)) root page r ⌝ }
 {
     let table = table_under(words, root, page)?;
     leaf_in(words, table, page)

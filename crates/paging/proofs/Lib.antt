@@ -1,0 +1,3 @@
+pub mod Tell
+pub mod Found
+pub mod Reached
