@@ -1,3 +1,4 @@
 pub mod Tell
 pub mod Found
 pub mod Reached
+pub mod Agree
