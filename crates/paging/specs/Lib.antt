@@ -4,3 +4,4 @@ pub mod Walks
 pub mod Mapping
 pub mod Tables
 pub mod Laws
+pub mod Example
