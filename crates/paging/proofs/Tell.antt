@@ -16,11 +16,9 @@ use Rattle.paging.specs.Walks.{has-frame}
 use Rattle.paging.specs.Mapping.{In-memory, Pointer, Leaf-entry}
 
 pub frame-tells : (ws : List ℕ) (frame : ℕ) → Decides (has-frame ws frame) (In-memory ws frame)
-unfolding has-frame
 frame-tells ws frame = ((λ e. record { below = grind (arith, tells); lent = grind (arith, tells) }), λ m. grind (arith, tells))
 
 pub pointer-tells : (entry : ℕ) → Decides (is-pointer entry) (Pointer entry (frame-of entry))
-unfolding is-pointer
 pointer-tells entry = (
     (λ e. record { valid = grind (arith, tells); not-readable = grind (arith, tells); not-writable = grind (arith, tells); not-executable = grind (arith, tells); frame = refl }),
     λ p. grind (arith, tells))
@@ -36,7 +34,6 @@ some-same x y e = cc
 -- the test of a leaf, for the flags of an entry
 module _ (entry : ℕ) (e : (is-leaf entry && (is-readable entry || not (is-writable entry))) ≡ true) where
   told : Leaf-entry entry (fields entry)
-  unfolding is-leaf
   told = record {
       valid = grind (arith, tells); user = grind (arith, tells); accessed = grind (arith, tells); dirty = grind (arith, tells);
       readable = refl; writable = refl; executable = refl; frame = refl;
@@ -44,13 +41,11 @@ module _ (entry : ℕ) (e : (is-leaf entry && (is-readable entry || not (is-writ
 
 -- an entry answers a leaf if and only if it is that leaf
 pub leaf-tells : (entry : ℕ) (leaf : Leaf) → leaf-of entry ≡ Some leaf → Leaf-entry entry leaf
-unfolding leaf-of
 leaf-tells entry leaf e =
     let g = guarded (is-leaf entry && (is-readable entry || not (is-writable entry))) (Some (fields entry)) leaf e in
     subst (Leaf-entry entry) (some-same (fields entry) leaf (g .1)) (told entry (g .0))
 
 pub leaf-told : (entry : ℕ) (leaf : Leaf) → Leaf-entry entry leaf → leaf-of entry ≡ Some leaf
-unfolding leaf-of is-leaf
 leaf-told entry leaf l =
     let same : fields entry ≡ leaf = rw (l .readable, l .writable, l .executable, l .frame) refl in
     let test : (is-leaf entry && (is-readable entry || not (is-writable entry))) ≡ true = grind (arith, tells) in

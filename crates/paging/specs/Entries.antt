@@ -42,11 +42,11 @@ abbrev pub grants : ℕ → Bool
 grants entry = is-readable entry || (is-writable entry || is-executable entry)
 
 -- an entry that points to a table of the next level: V, and none of R, W, X
-unfoldable pub is-pointer : ℕ → Bool
+abbrev pub is-pointer : ℕ → Bool
 is-pointer entry = is-valid entry && not (grants entry)
 
 -- an entry in the form of a leaf: V, one of R, W, X, and U, A, D
-unfoldable pub is-leaf : ℕ → Bool
+abbrev pub is-leaf : ℕ → Bool
 is-leaf entry = is-valid entry && (grants entry && (is-user entry && (is-accessed entry && is-dirty entry)))
 
 -- the frame that an entry names, with its R, W and X
@@ -54,5 +54,5 @@ abbrev pub fields : ℕ → Leaf
 fields entry = record { frame = frame-of entry; readable = is-readable entry; writable = is-writable entry; executable = is-executable entry }
 
 -- the leaf that an entry is; W without R is reserved
-unfoldable pub leaf-of : ℕ → Option Leaf
+abbrev pub leaf-of : ℕ → Option Leaf
 leaf-of entry = cond (is-leaf entry && (is-readable entry || not (is-writable entry))) (Some (fields entry)) None

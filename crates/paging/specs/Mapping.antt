@@ -13,8 +13,8 @@ use Rattle.words.specs.Frames.{word}
 use Rattle.paging.specs.declared.access.Access.{Access}
 use Rattle.paging.specs.declared.access.Access.the-variants.{Fetch, Load, Store}
 use Rattle.paging.specs.declared.leaf.Leaf.{Leaf}
-use Rattle.paging.specs.declared.leaf.PageFault.{PageFault}
-use Rattle.paging.specs.declared.leaf.Place.{Place}
+use Rattle.paging.specs.declared.translate.PageFault.{PageFault}
+use Rattle.paging.specs.declared.translate.Place.{Place}
 use Rattle.paging.specs.Entries.{frame-of, is-accessed, is-dirty, is-executable, is-readable, is-user, is-valid, is-writable}
 
 -- one of the 256 frames, and all of its words are lent

@@ -1,6 +1,6 @@
-// What a page is mapped to: a frame, and what may be done with it.
+// What a page maps to: a frame, and what may be done with it.
 ghost use mathlib.Core.Path.{_≡_};
-ghost use Rattle.paging.specs.Accesses.{permitted, place-through};
+ghost use Rattle.paging.specs.Accesses.{permitted};
 use crate::access::Access;
 
 #[derive(Clone, Copy)]
@@ -11,23 +11,8 @@ pub struct Leaf {
     pub executable: bool,
 }
 
-// A byte of memory: its frame, and how many bytes stand before it there, below 4,096.
-#[derive(Clone, Copy)]
-pub struct Place {
-    pub frame: u32,
-    pub offset: u32,
-}
-
-// No leaf allows the access.
-#[derive(Clone, Copy)]
-pub struct PageFault {
-    pub access: Access,
-}
-
-const FRAME_BYTES: u32 = 4096;
-
 impl Leaf {
-    // A store needs to read as well as to write.
+    // Whether the page may be used so. A store has to be allowed to read, too.
     pub fn permits(self, access: Access) -> bool
         ensures { λ r. ⌜ r ≡ permitted self access ⌝ }
     {
@@ -35,17 +20,6 @@ impl Leaf {
             Access::Fetch => self.executable,
             Access::Load => self.readable,
             Access::Store => self.readable && self.writable,
-        }
-    }
-
-    // The place of an address whose page has this leaf.
-    pub fn reach(self, address: u32, access: Access) -> Result<Place, PageFault>
-        ensures { λ r. ⌜ r ≡ place-through self address access ⌝ }
-    {
-        if self.permits(access) {
-            Ok(Place { frame: self.frame, offset: address % FRAME_BYTES })
-        } else {
-            Err(PageFault { access })
         }
     }
 }

@@ -13,5 +13,5 @@ returns-in-Break-table c =
 pub returns : need.returns
 unfolding walked
 returns c =
-    let is : c .leaf-in .result ≡ walked (c .args .words .now) (c .args .root) (c .args .page) = search needs in
-    record { value = is; finds = finds (c .args .words .now) (c .args .root) (c .args .page) (c .leaf-in .result) is }
+    let is : c .leaf-at .result ≡ walked (c .args .words .now) (c .args .root) (c .args .page) = search needs in
+    record { value = is; finds = finds (c .args .words .now) (c .args .root) (c .args .page) (c .leaf-at .result) is }
