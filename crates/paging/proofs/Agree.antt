@@ -1,11 +1,9 @@
 -- Memories that agree on a walk's way, and what follows for whole tables.
-use mathlib.Core.Path.{_≡_, refl, sym, ap, subst, _∙_}
-use mathlib.Core.Bool.{Bool, true, false, cond}
+use mathlib.Core.Path.{_≡_, refl, sym, subst, _∙_}
 use mathlib.Core.List.{List}
-use mathlib.Core.Logic.{_⊎_, inl, inr}
-use Prim.Native.Nat.{ℕ, _+_, _*_, _/_, _^_, _≤_, _<_}
+use mathlib.Core.Logic.{inl, inr}
+use Prim.Native.Nat.{ℕ, _+_, _*_, _<_}
 use native.Mathlib.Omega.{arith}
-use lib.ListN.{length}
 use Rattle.std.proofs.shelf.Ways.{tells}
 use Rattle.std.specs.declared.option.Option.{Option}
 use Rattle.std.specs.declared.option.Option.the-variants.{Some, None}
@@ -13,8 +11,8 @@ use Rattle.words.specs.Frames.{lent, word, written}
 use Rattle.words.proofs.Frame.{reads-back}
 use Rattle.paging.specs.declared.leaf.Leaf.{Leaf}
 use Rattle.paging.specs.Walks.{walked}
-use Rattle.paging.specs.Mapping.{In-memory, Pointer, Leaf-entry, Maps}
-use Rattle.paging.specs.Tables.{Alike, Kernel-frame, Names, Points-to, Same-lent, Same-tables}
+use Rattle.paging.specs.Mapping.{In-memory, Pointer, Maps}
+use Rattle.paging.specs.Tables.{Kernel-frame, Names, Points-to, Same-lent, Same-tables}
 use Rattle.paging.specs.Laws.{Leaves-named, Local, One-leaf, Pages-end, Same-way, Tables-decide, Walks-find, Writes-apart}
 use Rattle.paging.proofs.Tell.{some-same}
 use Rattle.paging.proofs.Found.{finds, maps-walk, walk-maps}

@@ -1,7 +1,6 @@
 -- An entry is the sum of its fields.
 use mathlib.Core.Path.{_≡_, refl}
-use mathlib.Core.Bool.{Bool, true, false, cond}
-use Prim.Native.Nat.{ℕ, _+_, _*_, _/_, _%_, _^_, _<_}
+use Prim.Native.Nat.{ℕ, _*_, _/_, _^_}
 use mathlib.Core.Logic.{inl, inr}
 use native.Mathlib.Nat.{mul-one, mul-zero}
 use native.Mathlib.Omega.{arith}

@@ -2,16 +2,14 @@
 use mathlib.Core.Path.{_≡_, refl, ap, subst}
 use mathlib.Core.Bool.{Bool, true, false, cond, not, _&&_, _||_}
 use mathlib.Core.List.{List}
-use mathlib.Core.Logic.{_⊎_, inl, inr}
-use Prim.Native.Nat.{ℕ, _+_, _*_, _/_, _≤_, _<_}
+use Prim.Native.Nat.{ℕ}
 use native.Mathlib.Omega.{arith}
-use Rattle.std.proofs.shelf.Tests.{and-parts, and-from, or-cases, or-left, or-right}
 use Rattle.std.proofs.shelf.Ways.{tells}
 use Rattle.std.specs.Orderings.{Decides}
 use Rattle.std.specs.declared.option.Option.{Option}
 use Rattle.std.specs.declared.option.Option.the-variants.{Some, None}
 use Rattle.paging.specs.declared.leaf.Leaf.{Leaf}
-use Rattle.paging.specs.Entries.{fields, frame-of, grants, is-pointer, is-leaf, leaf-of, is-valid, is-user, is-accessed, is-dirty, is-readable, is-writable, is-executable}
+use Rattle.paging.specs.Entries.{fields, frame-of, is-pointer, is-leaf, leaf-of, is-readable, is-writable}
 use Rattle.paging.specs.Walks.{has-frame}
 use Rattle.paging.specs.Mapping.{In-memory, Pointer, Leaf-entry}
 

@@ -6,7 +6,7 @@ use lib.Dec.{ltb}
 use Rattle.std.specs.declared.option.Option.{Option}
 use Rattle.std.specs.declared.option.Option.the-variants.{Some, None}
 use Rattle.std.specs.declared.result.Result.{Result}
-use Rattle.std.specs.declared.result.Result.the-variants.{Ok, Err}
+use Rattle.std.specs.declared.result.Result.the-variants.{Err}
 use Rattle.words.specs.Frames.{lent, word}
 use Rattle.paging.specs.declared.access.Access.{Access}
 use Rattle.paging.specs.declared.leaf.Leaf.{Leaf}

@@ -12,6 +12,7 @@ const POINTER: u32 = 0x401;
 // all of V, R, W, X, U, A, D, for frame 2
 const LEAF: u32 = 0x8DF;
 
+// frame, R, W, X
 type Seen = Option<(u32, bool, bool, bool)>;
 
 const WHOLE: Seen = Some((2, true, true, true));
@@ -35,11 +36,11 @@ fn flipped(bit: usize, seen: [Seen; 12]) -> Seen {
 
 #[test]
 fn each_bit_of_a_leaf() -> Result<(), Fail> {
-    let read_only = Some((2, true, false, true));
+    let no_writes = Some((2, true, false, true));
     let no_code = Some((2, true, true, false));
     let next_frame = Some((3, true, true, true));
     let first_frame = Some((0, true, true, true));
-    let expected = [None, None, read_only, no_code, None, WHOLE, None, None, WHOLE, WHOLE, next_frame, first_frame];
+    let expected = [None, None, no_writes, no_code, None, WHOLE, None, None, WHOLE, WHOLE, next_frame, first_frame];
     for bit in 0..32 {
         check_eq(seen(&memory(POINTER, LEAF ^ (1 << bit)), 0, PAGE), flipped(bit, expected))?;
     }
