@@ -53,15 +53,15 @@ module _ (ws : List ℕ) where
       let g = guarded (has-frame ws (found .frame)) (Some found) leaf e in
       (g .1, subst (λ l. In-memory ws (l .frame)) (some-same found leaf (g .1)) (frame-tells ws (found .frame) .0 (g .0)))
 
-  second-level : (low table : ℕ) (leaf : Leaf) → leaf-at ws low table ≡ Some leaf → Leaf-entry (word ws table low) leaf × In-memory ws (leaf .frame)
+  second-level : (low table : ℕ) (leaf : Leaf) → leaf-at ws table low ≡ Some leaf → Leaf-entry (word ws table low) leaf × In-memory ws (leaf .frame)
   second-level low table leaf e =
       let g = there (leaf-of (word ws table low)) leaf e in
       (leaf-tells (word ws table low) leaf (g .0), g .1)
 
-  to-leaf : (low table : ℕ) (leaf : Leaf) → Leaf-entry (word ws table low) leaf → In-memory ws (leaf .frame) → leaf-at ws low table ≡ Some leaf
+  to-leaf : (low table : ℕ) (leaf : Leaf) → Leaf-entry (word ws table low) leaf → In-memory ws (leaf .frame) → leaf-at ws table low ≡ Some leaf
   to-leaf low table leaf l m = rw (leaf-told (word ws table low) leaf l, frame-tells ws (leaf .frame) .1 m)
 
-  through : (low : ℕ) (o : Option ℕ) (leaf : Leaf) → then-leaf ws low o ≡ Some leaf → (table : ℕ) × (o ≡ Some table) × (leaf-at ws low table ≡ Some leaf)
+  through : (low : ℕ) (o : Option ℕ) (leaf : Leaf) → then-leaf ws low o ≡ Some leaf → (table : ℕ) × (o ≡ Some table) × (leaf-at ws table low ≡ Some leaf)
   through low None leaf e = absurd (let z : _≡_ {A = ℕ} 0 1 = cc in omega arith)
   through low (Some table) leaf e = (table, refl, e)
 

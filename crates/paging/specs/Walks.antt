@@ -25,17 +25,18 @@ table-at words root high =
     let entry = word words root high in
     cond (ltb high 1024 && has-frame words root) (cond (is-pointer entry && has-frame words (frame-of entry)) (Some (frame-of entry)) None) None
 
+-- a leaf counts where its frame is one that a walk may go to
 abbrev pub if-there : List ℕ → Option Leaf → Option Leaf
 if-there words None = None
 if-there words (Some leaf) = cond (has-frame words (leaf .frame)) (Some leaf) None
 
 -- the leaf that entry `low` of a table is, if it is one
 abbrev pub leaf-at : List ℕ → ℕ → ℕ → Option Leaf
-leaf-at words low table = if-there words (leaf-of (word words table low))
+leaf-at words table low = if-there words (leaf-of (word words table low))
 
 abbrev pub then-leaf : List ℕ → ℕ → Option ℕ → Option Leaf
 then-leaf words low None = None
-then-leaf words low (Some table) = leaf-at words low table
+then-leaf words low (Some table) = leaf-at words table low
 
 -- the high part of a page's number is its entry in the root, and the low ten bits are its entry in the table
 unfoldable pub walked : List ℕ → ℕ → ℕ → Option Leaf

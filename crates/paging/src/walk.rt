@@ -30,7 +30,7 @@ fn table_at(words: &[u32], root: u32, high: u32) -> Option<u32>
 }
 
 fn leaf_at(words: &[u32], table: u32, low: u32) -> Option<Leaf>
-    ensures { λ r. ⌜ r ≡ leaf-at (now (words .entry)) low table ⌝ }
+    ensures { λ r. ⌜ r ≡ leaf-at (now (words .entry)) table low ⌝ }
 {
     let leaf = Entry(read(words, table, low)).leaf()?;
     if has_frame(words, leaf.frame) { Some(leaf) } else { None }
