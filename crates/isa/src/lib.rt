@@ -1,0 +1,3 @@
+// The instructions of RV32I: decoding, the ALU, branch conditions and the registers.
+pub mod instruction;
+pub mod register;
