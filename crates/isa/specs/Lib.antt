@@ -1,2 +1,4 @@
 pub mod Registers
 pub mod Formats
+pub mod Tables
+pub mod Decoding

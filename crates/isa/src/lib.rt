@@ -1,4 +1,5 @@
 // The instructions of RV32I: decoding, the ALU, branch conditions and the registers.
+pub mod decode;
 mod fields;
 pub mod instruction;
 pub mod register;
