@@ -2,3 +2,4 @@ pub mod Registers
 pub mod Formats
 pub mod Tables
 pub mod Decoding
+pub mod Meaning
