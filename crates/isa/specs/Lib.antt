@@ -3,3 +3,5 @@ pub mod Formats
 pub mod Tables
 pub mod Decoding
 pub mod Meaning
+pub mod Encoding
+pub mod Laws
