@@ -6,7 +6,7 @@ use lib.Dec.{ltb}
 use lib.IntN.{ℤ, pos, negsuc, negℤ, natAbs, _+ℤ_, _-ℤ_}
 use lib.Signed.{_<ℤ_, _≤ℤ_}
 use Prim.Native.Nat.{ℕ, zero, suc, _+_, _-_, _*_, _/_, _%_, _^_, _≤_, _<_}
-use native.Mathlib.Nat.{div-one, mod-eq-of-lt, pow-succ', zero-mul}
+use native.Mathlib.Nat.{div-one, mod-eq-of-lt, pow-succ', zero-add, zero-mul}
 use native.Mathlib.Omega.{arith}
 use Rattle.std.proofs.shelf.Bits.{pow-pos, pow-add, mod-below}
 use Rattle.std.proofs.shelf.Signed.{ints, remEuclid-is}
@@ -29,6 +29,11 @@ low-bits k j n some h =
     elim (signs (k + j) n some .bits) [
         inl e ↦ euclid 0 (rw zero-mul (omega (arith, ints)))
       | inr e ↦ euclid (2 ^ k) (rw (sym (pow-add 2 k j)) (e ∙ ap pos whole)) ]
+
+pub bits-of-signed : (k n : ℕ) → 0 < k → n < 2 ^ k → remainder k (signed k n) ≡ n
+bits-of-signed k n some h =
+    let none : 0 + k ≡ k = zero-add k in
+    (rw none at (low-bits 0 k n (omega arith) (rw none h))) ∙ mod-eq-of-lt h
 
 pub bits-below : (k : ℕ) (z : ℤ) → remainder k z < 2 ^ k
 bits-below k (pos n) = mod-below n (2 ^ k) (pow-pos k)
