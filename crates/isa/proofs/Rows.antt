@@ -44,9 +44,12 @@ module _ {A : Type 0} (number : A → ℕ) where
   pub found : (rows : List A) (n : ℕ) (a : A) → numbered number rows n ≡ Some a → n ≡ number a
   found rows n a = found-has (λ r. n ≡ number r) rows n a (every rows n)
 
-  -- a row that is found under its number, met by that number
+  -- the same number finds the same
+  pub finds : {B : Type 0} (rows : List A) (f : A → Option B) (n m : ℕ) (o : Option A) → n ≡ m → numbered number rows m ≡ o → and-then (numbered number rows n) f ≡ and-then o f
+  finds rows f n m o e l = ap (λ k. and-then (numbered number rows k) f) e ∙ ap (λ p. and-then p f) l
+
   pub meets : {B : Type 0} (rows : List A) (f : A → Option B) (n : ℕ) (a : A) → n ≡ number a → Listed number rows a → and-then (numbered number rows n) f ≡ f a
-  meets rows f n a e l = ap (λ k. and-then (numbered number rows k) f) e ∙ ap (λ o. and-then o f) l
+  meets rows f n a = finds rows f n (number a) (Some a)
 
 -- every condition, width, operation and counter is in its table, with a number that its field can hold
 abbrev Row : {A : Type 0} → (A → ℕ) → List A → ℕ → A → Type 0
