@@ -5,7 +5,7 @@ use mathlib.Core.List.{List}
 use mathlib.Core.Logic.{inl, inr}
 use Prim.Native.Nat.{ℕ, _+_, _-_, _*_, _/_, _%_, _^_, _<_}
 use native.Mathlib.Omega.{arith}
-use lib.Dec.{eqb, ltb→lt}
+use lib.Dec.{eqb}
 use lib.IntN.{ℤ, pos, negsuc}
 use lib.Signed.{_<ℤ_, _≤ℤ_}
 use Rattle.std.proofs.shelf.Signed.{ints}
@@ -26,11 +26,8 @@ use Rattle.isa.specs.Decoding.{and-then, jalr, branch, load, store, constant, 
 use Rattle.isa.specs.Encoding.{encoding, Within, Lawful}
 use Rattle.isa.proofs.Complement.{bits-below, signed-of-bits, zeros}
 use Rattle.isa.proofs.Rows.{finds, meets, plain, apart, condition-row, load-row, store-row, counter-row, operation-row}
-use Rattle.isa.proofs.Same.{same-register}
+use Rattle.isa.proofs.Same.{below, same-register}
 use Rattle.isa.proofs.Words.{Made, r-made, i-made, s-made, b-made, u-made, j-made}
-
-below : (r : Register) → r .index < 32
-below r = ltb→lt (r .index) 32 (r .named)
 
 abbrev Back : ℕ → Instruction → Type 0
 Back w i = (w < 2 ^ 32) × (decoded w ≡ Some i)

@@ -1,11 +1,14 @@
--- Registers with one number are one, and so are register files with the same words.
+-- Registers are below 32; two with one number are one, and so are register files with the same words.
 use mathlib.Core.Path.{_≡_, refl, subst, ap}
 use mathlib.Core.List.{List}
-use Prim.Native.Nat.{ℕ}
-use lib.Dec.{T, T-prop, ltb}
+use Prim.Native.Nat.{ℕ, _<_}
+use lib.Dec.{T, T-prop, ltb, ltb→lt}
 use Rattle.isa.specs.declared.register.Register.{Register}
 use Rattle.isa.specs.declared.register.Registers.{Registers}
 use Rattle.isa.specs.Registers.{formed-words}
+
+pub below : (r : Register) → r .index < 32
+below r = ltb→lt (r .index) 32 (r .named)
 
 pub same-register : (a b : Register) → a .index ≡ b .index → a ≡ b
 same-register a b e =

@@ -5,3 +5,4 @@ pub mod Decoding
 pub mod Meaning
 pub mod Encoding
 pub mod Laws
+pub mod Worked

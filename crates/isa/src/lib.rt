@@ -4,4 +4,5 @@ pub mod branch;
 pub mod decode;
 mod fields;
 pub mod instruction;
+pub mod laws;
 pub mod register;
