@@ -1,5 +1,7 @@
 // The fields of an instruction word and its immediates.
 ghost use mathlib.Core.Path.{_≡_};
+ghost use Prim.Native.Nat.{_/_, _^_, _<_};
+ghost use Rattle.isa.specs.Registers.{register};
 ghost use Rattle.isa.specs.Formats.{b-immediate, funct3, funct7, i-immediate, j-immediate, opcode, rd, rs1, rs2, s-immediate, u-immediate};
 use crate::register::Register;
 use words::bits::bits;
@@ -11,10 +13,18 @@ pub(crate) fn opcode(word: u32) -> u32
     bits(word, 0, 7)
 }
 
+// The register that five bits of a word name, from bit `low` on.
+fn register_at(word: u32, low: u32) -> Register
+    requires { ⌜ low < 32 ⌝ }
+    ensures { λ r. ⌜ r ≡ register (word / 2 ^ low) ⌝ }
+{
+    Register::new(word >> low)
+}
+
 pub(crate) fn rd(word: u32) -> Register
     ensures { λ r. ⌜ r ≡ rd word ⌝ }
 {
-    Register::new(word >> 7)
+    register_at(word, 7)
 }
 
 pub(crate) fn funct3(word: u32) -> u32
@@ -26,13 +36,13 @@ pub(crate) fn funct3(word: u32) -> u32
 pub(crate) fn rs1(word: u32) -> Register
     ensures { λ r. ⌜ r ≡ rs1 word ⌝ }
 {
-    Register::new(word >> 15)
+    register_at(word, 15)
 }
 
 pub(crate) fn rs2(word: u32) -> Register
     ensures { λ r. ⌜ r ≡ rs2 word ⌝ }
 {
-    Register::new(word >> 20)
+    register_at(word, 20)
 }
 
 pub(crate) fn funct7(word: u32) -> u32

@@ -1,13 +1,14 @@
 // Reading and writing a register.
 ghost use mathlib.Core.Path.{_≡_};
-ghost use Rattle.isa.specs.Registers.{blank, held, register, written};
+ghost use Prim.Native.Nat.{_%_};
+ghost use Rattle.isa.specs.Registers.{blank, held, written};
 use super::Register;
 use super::Registers;
 
 impl Register {
     // The register that the low five bits of a number name.
     pub fn new(number: u32) -> Register
-        ensures { λ r. ⌜ r ≡ register number ⌝ }
+        ensures { λ r. ⌜ r .index ≡ number % 32 ⌝ }
     {
         Register { index: (number % 32) as u8 }
     }
@@ -31,8 +32,9 @@ impl Registers {
     pub fn write(&mut self, register: Register, value: u32)
         ensures { λ _. ⌜ now (self .exit) ≡ written (now (self .entry)) register value ⌝ }
     {
-        if register.index != 0 {
-            self.words[register.index as usize] = value;
+        let at = register.index as usize;
+        if at != 0 {
+            self.words[at] = value;
         }
     }
 }
