@@ -9,6 +9,7 @@ use bench::START;
 use row::Roles;
 use row::Row;
 use rows::*;
+use std::error::AnyError;
 use std::io;
 use word::*;
 
@@ -80,10 +81,54 @@ fn run_rows(rt: &LibcRuntime, tally: &mut Tally, name: &str, form: Form, fixed: 
     println!(rt, "{name} {count}")
 }
 
-fn main(rt: LibcRuntime) -> io::Result<()> {
+// An operation with two registers.
+fn run_registers(rt: &LibcRuntime, tally: &mut Tally) -> io::Result<()> {
+    run_rows(rt, tally, "add", Form::Registers, 0x0000_0033, &ADD_ROWS)?;
+    run_rows(rt, tally, "and", Form::Registers, 0x0000_7033, &AND_ROWS)?;
+    run_rows(rt, tally, "or", Form::Registers, 0x0000_6033, &OR_ROWS)?;
+    run_rows(rt, tally, "sll", Form::Registers, 0x0000_1033, &SLL_ROWS)?;
+    run_rows(rt, tally, "slt", Form::Registers, 0x0000_2033, &SLT_ROWS)?;
+    run_rows(rt, tally, "sltu", Form::Registers, 0x0000_3033, &SLTU_ROWS)?;
+    run_rows(rt, tally, "sra", Form::Registers, 0x4000_5033, &SRA_ROWS)?;
+    run_rows(rt, tally, "srl", Form::Registers, 0x0000_5033, &SRL_ROWS)?;
+    run_rows(rt, tally, "sub", Form::Registers, 0x4000_0033, &SUB_ROWS)?;
+    run_rows(rt, tally, "xor", Form::Registers, 0x0000_4033, &XOR_ROWS)
+}
+
+// An operation with a constant.
+fn run_constants(rt: &LibcRuntime, tally: &mut Tally) -> io::Result<()> {
+    run_rows(rt, tally, "addi", Form::Constant, 0x0000_0013, &ADDI_ROWS)?;
+    run_rows(rt, tally, "andi", Form::Constant, 0x0000_7013, &ANDI_ROWS)?;
+    run_rows(rt, tally, "auipc", Form::Relative, 0x0000_0017, &AUIPC_ROWS)?;
+    run_rows(rt, tally, "lui", Form::Upper, 0x0000_0037, &LUI_ROWS)?;
+    run_rows(rt, tally, "ori", Form::Constant, 0x0000_6013, &ORI_ROWS)?;
+    run_rows(rt, tally, "slli", Form::Constant, 0x0000_1013, &SLLI_ROWS)?;
+    run_rows(rt, tally, "slti", Form::Constant, 0x0000_2013, &SLTI_ROWS)?;
+    run_rows(rt, tally, "sltiu", Form::Constant, 0x0000_3013, &SLTIU_ROWS)?;
+    run_rows(rt, tally, "srai", Form::Constant, 0x4000_5013, &SRAI_ROWS)?;
+    run_rows(rt, tally, "srli", Form::Constant, 0x0000_5013, &SRLI_ROWS)?;
+    run_rows(rt, tally, "xori", Form::Constant, 0x0000_4013, &XORI_ROWS)
+}
+
+// The branches, both ways.
+fn run_branches(rt: &LibcRuntime, tally: &mut Tally) -> io::Result<()> {
+    run_rows(rt, tally, "beq", Form::Branch, 0x0000_0063, &BEQ_ROWS)?;
+    run_rows(rt, tally, "bge", Form::Branch, 0x0000_5063, &BGE_ROWS)?;
+    run_rows(rt, tally, "bgeu", Form::Branch, 0x0000_7063, &BGEU_ROWS)?;
+    run_rows(rt, tally, "blt", Form::Branch, 0x0000_4063, &BLT_ROWS)?;
+    run_rows(rt, tally, "bltu", Form::Branch, 0x0000_6063, &BLTU_ROWS)?;
+    run_rows(rt, tally, "bne", Form::Branch, 0x0000_1063, &BNE_ROWS)
+}
+
+fn main(rt: LibcRuntime) -> Result<(), AnyError> {
     let mut tally = Tally { run: 0, failed: 0 };
-    run_rows(&rt, &mut tally, "add", Form::Registers, 0x0000_0033, &ADD_ROWS)?;
-    let run = tally.run;
-    let failed = tally.failed;
-    println!(rt, "total {run}, failed {failed}")
+    run_registers(&rt, &mut tally)?;
+    run_constants(&rt, &mut tally)?;
+    run_branches(&rt, &mut tally)?;
+    let Tally { run, failed } = tally;
+    println!(rt, "vectors {run}, failed {failed}")?;
+    if failed > 0 {
+        return Err("vectors failed".into());
+    }
+    Ok(())
 }

@@ -210,3 +210,13 @@ pub const BGEU_ROWS: [Row; 10] = [
     Row(Apart, 0, 0xfffffffe, 0xffffffff), Row(Apart, 0, 0, 0xffffffff), Row(Apart, 0, 0x7fffffff, 0x80000000),
 ];
 
+// the constant of LUI, and the shift after it
+pub const LUI_ROWS: [Row; 5] = [
+    Row(Apart, 0, 0, 0), Row(Apart, 0xfffff800, 0xfffff, 1), Row(Apart, 0x7ff, 0x7ffff, 20), Row(Apart, 0xfffff800, 0x80000, 20),
+    Row(TargetZero, 0, 0x80000, 0),
+];
+
+// the constants of AUIPC and of the ADDI after it, for an address 10,000 bytes after and before
+pub const AUIPC_ROWS: [Row; 2] = [
+    Row(Apart, 10000, 2, 0x71c), Row(Apart, 0xffffd8f0, 0xffffe, 0x8fc),
+];
