@@ -1,17 +1,13 @@
 -- Two's complement: a number and its bits tell each other.
 use mathlib.Core.Path.{_≡_, refl, sym, ap, _∙_}
-use mathlib.Core.Bool.{true, false, cond}
-use mathlib.Core.Logic.{_⊎_, inl, inr}
-use lib.Dec.{ltb}
-use lib.IntN.{ℤ, pos, negsuc, negℤ, natAbs, _+ℤ_, _-ℤ_}
-use lib.Signed.{_<ℤ_, _≤ℤ_}
-use Prim.Native.Nat.{ℕ, zero, suc, _+_, _-_, _*_, _/_, _%_, _^_, _≤_, _<_}
+use mathlib.Core.Logic.{inl, inr}
+use lib.IntN.{ℤ, pos, negsuc, natAbs, _+ℤ_}
+use Prim.Native.Nat.{ℕ, zero, suc, _+_, _-_, _*_, _%_, _^_, _<_}
 use native.Mathlib.Nat.{div-one, mod-eq-of-lt, pow-succ', zero-add, zero-mul}
 use native.Mathlib.Omega.{arith}
 use Rattle.std.proofs.shelf.Bits.{pow-pos, pow-add, mod-below}
 use Rattle.std.proofs.shelf.Signed.{ints, remEuclid-is}
-use Rattle.std.proofs.shelf.Tests.{cases-lt, lt-ltb, le-ltb, cond-true, cond-false}
-use Rattle.std.specs.Numbers.{remEuclid}
+use Rattle.std.proofs.shelf.Tests.{lt-ltb, le-ltb, cond-true, cond-false}
 use Rattle.words.specs.Bits.{signed, complement}
 use Rattle.words.proofs.Signs.{signs}
 use Rattle.isa.specs.Encoding.{Within}

@@ -1,8 +1,8 @@
 -- Laws of the operations and of the conditions.
 use mathlib.Core.Path.{_≡_, refl, sym, ap, subst, _∙_}
-use mathlib.Core.Bool.{Bool, true, false, cond, not}
-use mathlib.Core.Logic.{_≢_, inl, inr}
-use Prim.Native.Nat.{ℕ, zero, suc, _+_, _-_, _*_, _/_, _%_, _^_, _≤_, _<_}
+use mathlib.Core.Bool.{true, false, not}
+use mathlib.Core.Logic.{inl, inr}
+use Prim.Native.Nat.{ℕ, zero, suc, _+_, _-_, _*_, _/_, _%_, _^_, _<_}
 use native.Mathlib.Nat.{div-le-self, mod-eq-of-lt, mul-comm, mul-add, mul-suc, mul-zero}
 use native.Mathlib.Omega.{arith}
 use lib.Dec.{T, eqb, ltb}
@@ -14,12 +14,12 @@ use Rattle.std.proofs.shelf.Bits.{div-add-mod', mod-below, pow-pos}
 use Rattle.std.proofs.shelf.Tests.{cases-lt, cond-true, cond-false}
 use Rattle.std.proofs.shelf.Ways.{tells, decides-eqb, decides-ltb, decides-not, decides-like}
 use Rattle.words.specs.Bits.{signed}
-use Rattle.isa.specs.declared.instruction.Operation.the-variants.{Add, Sub, LessThan, LessThanUnsigned, ShiftRightArithmetic}
+use Rattle.isa.specs.declared.instruction.Operation.the-variants.{ShiftRightArithmetic}
 use Rattle.words.proofs.Signs.{signs}
 use Rattle.isa.specs.Encoding.{Within}
 use Rattle.isa.proofs.Complement.{signed-of-bits}
-use Rattle.isa.specs.Meaning.{remainder, computed, holds}
-use Rattle.isa.specs.Laws.{Undoes, Compares, Orders, Floor, Rounds-down}
+use Rattle.isa.specs.Meaning.{remainder, computed}
+use Rattle.isa.specs.Laws.{Undoes, Orders, Rounds-down}
 
 -- the remainder of a difference of words
 difference : (a b : ℕ) → a < 2 ^ 32 → b < 2 ^ 32 → remainder 32 (pos a -ℤ pos b) ≡ (a + (2 ^ 32 - b)) % 2 ^ 32

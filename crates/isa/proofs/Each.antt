@@ -1,13 +1,10 @@
 -- The word of each lawful instruction decodes to it.
-use mathlib.Core.Path.{_≡_, refl, sym, ap, _∙_}
-use mathlib.Core.Bool.{true, false, cond, _&&_}
-use mathlib.Core.List.{List}
+use mathlib.Core.Path.{_≡_, refl, ap, _∙_}
 use mathlib.Core.Logic.{inl, inr}
-use Prim.Native.Nat.{ℕ, _+_, _-_, _*_, _/_, _%_, _^_, _<_}
+use Prim.Native.Nat.{ℕ, _+_, _*_, _/_, _%_, _^_, _<_}
 use native.Mathlib.Omega.{arith}
 use lib.Dec.{eqb}
 use lib.IntN.{ℤ, pos, negsuc}
-use lib.Signed.{_<ℤ_, _≤ℤ_}
 use Rattle.std.proofs.shelf.Signed.{ints}
 use Rattle.std.proofs.shelf.Tests.{cond-true, eq-eqb, and-from}
 use Rattle.std.specs.declared.option.Option.{Option}
@@ -19,10 +16,10 @@ use Rattle.isa.specs.declared.instruction.Operation.{Operation}
 use Rattle.isa.specs.declared.instruction.Instruction.{Instruction}
 use Rattle.isa.specs.declared.instruction.Instruction.the-variants.{Lui, Auipc, Jal, Jalr, Branch, Load, Store, RegisterImmediate, RegisterRegister, ReadCounter}
 use Rattle.isa.specs.Registers.{register}
-use Rattle.isa.specs.Formats.{opcode, rd, funct3, rs1, rs2, funct7, i-bits, s-bits, b-bits, u-bits, j-bits, i-immediate, s-immediate, b-immediate, u-immediate, j-immediate, u-format, i-format}
+use Rattle.isa.specs.Formats.{opcode, rd, funct3, rs1, rs2, funct7, i-bits, u-immediate, u-format, i-format}
 use Rattle.isa.specs.Meaning.{remainder}
-use Rattle.isa.specs.Tables.{numbered, Listed, Major, opcode-of, majors, condition-number, conditions, load-number, loads, store-number, stores, operation-number, operations, funct3-of, funct7-of, constants, shifts, counter-number, counters}
-use Rattle.isa.specs.Decoding.{and-then, jalr, branch, load, store, constant, shift, register-register, read-counter, in-major, decoded}
+use Rattle.isa.specs.Tables.{Listed, Major, opcode-of, majors, condition-number, conditions, load-number, loads, store-number, stores, operation-number, operations, funct3-of, funct7-of, constants, shifts, counter-number, counters}
+use Rattle.isa.specs.Decoding.{constant, shift, in-major, decoded}
 use Rattle.isa.specs.Encoding.{encoding, Within, Lawful}
 use Rattle.isa.proofs.Complement.{bits-below, signed-of-bits, zeros}
 use Rattle.isa.proofs.Rows.{finds, meets, plain, apart, condition-row, load-row, store-row, counter-row, operation-row}

@@ -1,12 +1,12 @@
 -- Decoding is exact, and lawful instructions have words of their own.
-use mathlib.Core.Path.{_≡_, refl, sym, subst, _∙_}
+use mathlib.Core.Path.{_≡_, refl, sym, _∙_}
 use Prim.Native.Nat.{ℕ}
 use Rattle.std.specs.declared.option.Option.{Option}
 use Rattle.std.specs.declared.option.Option.the-variants.{Some, None}
 use Rattle.isa.specs.declared.instruction.Instruction.{Instruction}
 use Rattle.isa.specs.Decoding.{decoded}
 use Rattle.isa.specs.Encoding.{encoding, Lawful}
-use Rattle.isa.specs.Laws.{Decodes, Exact, Encodes, Injective, Refuses, Illegal}
+use Rattle.isa.specs.Laws.{Exact, Encodes, Injective, Illegal}
 use Rattle.isa.proofs.Each.{back}
 use Rattle.isa.proofs.Only.{Of, only}
 use Rattle.isa.proofs.Rows.{some-is, none-is}

@@ -1,17 +1,15 @@
 -- What the registers hold.
-use mathlib.Core.Path.{_≡_, refl, sym, ap, _∙_}
-use mathlib.Core.Bool.{Bool, true, false, cond, _&&_}
+use mathlib.Core.Path.{_≡_, refl}
+use mathlib.Core.Bool.{Bool, true, false}
 use mathlib.Core.Logic.{_≢_, inl, inr}
-use Prim.Native.Nat.{ℕ}
 use native.Mathlib.Omega.{arith}
 use lib.Dec.{T, eqb}
 use lib.ListN.{getD, length, set}
 use Rattle.std.proofs.shelf.Lists.{getD-set-same, getD-set-other, getD-replicate}
-use Rattle.std.proofs.shelf.Tests.{cases-bool, cond-true, cond-false, eqb-true, eqb-false, and-parts, eq-eqb, ne-eqb}
-use Rattle.isa.specs.declared.register.Register.{Register}
+use Rattle.std.proofs.shelf.Tests.{cases-bool, cond-true, cond-false, eqb-true, and-parts, ne-eqb}
 use Rattle.isa.specs.declared.register.Registers.{Registers}
-use Rattle.isa.specs.Registers.{register, blank, held, written, formed-words}
-use Rattle.isa.specs.Laws.{Zero, Starts, Writing, Writes}
+use Rattle.isa.specs.Registers.{register, written, formed-words}
+use Rattle.isa.specs.Laws.{Zero, Starts, Writes}
 use Rattle.isa.proofs.Same.{below, same-register}
 
 passed : (b : Bool) → T b → b ≡ true

@@ -1,18 +1,17 @@
 -- Only the word of a lawful instruction decodes to it.
 use mathlib.Core.Path.{_≡_, refl, sym, ap, subst, _∙_}
 use mathlib.Core.Bool.{Bool, true, false, cond, _&&_}
-use mathlib.Core.List.{List, [], _∷_}
+use mathlib.Core.List.{List}
 use mathlib.Core.Logic.{inl, inr}
-use Prim.Native.Nat.{ℕ, _+_, _-_, _*_, _/_, _%_, _^_, _<_}
+use Prim.Native.Nat.{ℕ, _+_, _*_, _%_, _^_, _<_}
 use native.Mathlib.Omega.{arith}
 use lib.Dec.{eqb}
-use lib.IntN.{ℤ, pos}
+use lib.IntN.{pos}
 use Rattle.std.proofs.shelf.Signed.{ints}
-use Rattle.std.proofs.shelf.Tests.{cases-bool, cond-true, cond-false, eqb-true, and-parts}
+use Rattle.std.proofs.shelf.Tests.{eqb-true, and-parts}
 use Rattle.std.specs.declared.option.Option.{Option}
 use Rattle.std.specs.declared.option.Option.the-variants.{Some, None}
 use Rattle.words.specs.Bits.{field, signed}
-use Rattle.words.specs.First.{or-else}
 use Rattle.words.proofs.First.{or-some}
 use Rattle.words.proofs.Signs.{signs}
 use Rattle.isa.specs.declared.instruction.Operation.{Operation}
@@ -25,7 +24,7 @@ use Rattle.isa.specs.declared.instruction.Instruction.the-variants.{Lui, Auipc
 use Rattle.isa.specs.Formats.{opcode, rd, funct3, rs1, rs2, funct7, i-bits, s-bits, b-bits, u-bits, j-bits, i-immediate, s-immediate, b-immediate, u-immediate, j-immediate}
 use Rattle.isa.specs.Meaning.{remainder}
 use Rattle.isa.specs.Tables.{numbered, Listed, Major, opcode-of, majors, condition-number, conditions, load-number, loads, store-number, stores, operation-number, operations, funct3-of, funct7-of, constants, shifts, counter-number, counters}
-use Rattle.isa.specs.Decoding.{and-then, jalr, branch, load, store, constant, shift, register-register, read-counter, in-major, decoded}
+use Rattle.isa.specs.Decoding.{and-then, constant, shift, in-major, decoded}
 use Rattle.isa.specs.Encoding.{encoding, Within, Lawful}
 use Rattle.isa.proofs.Complement.{bits-of-signed, low-bits}
 use Rattle.isa.proofs.Rows.{some-is, none-is, and-some, found, plain, operation-row}

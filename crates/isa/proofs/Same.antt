@@ -1,5 +1,5 @@
 -- Registers are below 32; two with one number are one, and so are register files with the same words.
-use mathlib.Core.Path.{_≡_, refl, subst, ap}
+use mathlib.Core.Path.{_≡_, subst, ap}
 use mathlib.Core.List.{List}
 use Prim.Native.Nat.{ℕ, _<_}
 use lib.Dec.{T, T-prop, ltb, ltb→lt}

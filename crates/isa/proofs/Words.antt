@@ -1,6 +1,6 @@
 -- A word is made of its fields, and the fields of a made word are those that it was made of.
-use mathlib.Core.Path.{_≡_, refl, sym, ap, _∙_}
-use Prim.Native.Nat.{ℕ, _+_, _-_, _*_, _/_, _%_, _^_, _<_}
+use mathlib.Core.Path.{_≡_, _∙_}
+use Prim.Native.Nat.{ℕ, _+_, _*_, _/_, _%_, _^_, _<_}
 use native.Mathlib.Omega.{arith}
 use Rattle.words.specs.Bits.{field}
 use Rattle.words.proofs.Signs.{fields-join}
