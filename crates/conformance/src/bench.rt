@@ -1,4 +1,5 @@
 // A core without memory: it runs the instructions that need none.
+use isa::alu::word_of;
 use isa::decode::decode;
 use isa::instruction::Instruction;
 use isa::register::Register;
@@ -38,10 +39,10 @@ impl Bench {
     pub fn run(&mut self, word: u32) -> Option<()> {
         let mut next = self.counter.wrapping_add(4);
         match decode(word)? {
-            Instruction::Lui { rd, value } => self.registers.write(rd, value.cast_unsigned()),
+            Instruction::Lui { rd, value } => self.registers.write(rd, word_of(value)),
             Instruction::Auipc { rd, value } => self.registers.write(rd, self.counter.wrapping_add_signed(value)),
             Instruction::RegisterImmediate { operation, rd, source, value } => {
-                let result = operation.compute(self.registers.read(source), value.cast_unsigned());
+                let result = operation.compute(self.registers.read(source), word_of(value));
                 self.registers.write(rd, result);
             }
             Instruction::RegisterRegister { operation, rd, left, right } => {

@@ -16,19 +16,16 @@ use Rattle.isa.specs.declared.instruction.Condition.the-variants.{Equal, NotEq
 abbrev pub remainder : ℕ → ℤ → ℕ
 remainder width z = natAbs (remEuclid z (pos (2 ^ width)))
 
--- a shift is by the low five bits
-abbrev pub shifted : ℕ → ℕ
-shifted b = 2 ^ (b % 32)
-
+-- sums and differences wrap at 2 ^ 32; a shift is by the low five bits of b
 abbrev pub computed : Operation → ℕ → ℕ → ℕ
 computed Add a b = remainder 32 (pos a +ℤ pos b)
 computed Sub a b = remainder 32 (pos a -ℤ pos b)
-computed ShiftLeft a b = a * shifted b % 2 ^ 32
+computed ShiftLeft a b = a * 2 ^ (b % 32) % 2 ^ 32
 computed LessThan a b = cond (ltZ (signed 32 a) (signed 32 b)) 1 0
 computed LessThanUnsigned a b = cond (ltb a b) 1 0
 computed Xor a b = bitXor a b
-computed ShiftRight a b = a / shifted b
-computed ShiftRightArithmetic a b = remainder 32 (shrZ (signed 32 a) (shifted b))
+computed ShiftRight a b = a / 2 ^ (b % 32)
+computed ShiftRightArithmetic a b = remainder 32 (shrZ (signed 32 a) (2 ^ (b % 32)))
 computed Or a b = bitOr a b
 computed And a b = bitAnd a b
 

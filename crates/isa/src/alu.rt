@@ -1,6 +1,6 @@
 // The ALU: one function for operations with a constant and with a register.
 ghost use mathlib.Core.Path.{_≡_};
-ghost use Rattle.isa.specs.Meaning.{computed};
+ghost use Rattle.isa.specs.Meaning.{computed, remainder};
 use crate::instruction::Operation;
 
 impl Operation {
@@ -21,4 +21,11 @@ impl Operation {
             Operation::And => left & right,
         }
     }
+}
+
+// The word of an instruction's constant: its remainder by 2 ^ 32.
+pub fn word_of(constant: i32) -> u32
+    ensures { λ r. ⌜ r ≡ remainder 32 constant ⌝ }
+{
+    constant.cast_unsigned()
 }
