@@ -1,4 +1,5 @@
-// The vectors of the public RISC-V test suite, rv32ui: for each operation the rows of its file, with what it must give.
+// Vectors of the public RISC-V test suite, rv32ui: the rows that compute or compare, and those that put one register into two roles or
+// name register 0. Its rows that differ from these only in the spacing of instructions are left out.
 use crate::row::Place::*;
 use crate::row::Row;
 
