@@ -23,47 +23,20 @@ pub struct Roles {
 
 impl Place {
     pub fn roles(self) -> Roles {
-        match self {
-            Place::Apart => Roles {
-                target: 14,
-                first: 1,
-                second: 2,
-            },
-            Place::FirstIsTarget => Roles {
-                target: 1,
-                first: 1,
-                second: 2,
-            },
-            Place::SecondIsTarget => Roles {
-                target: 2,
-                first: 1,
-                second: 2,
-            },
-            Place::AllOne => Roles {
-                target: 1,
-                first: 1,
-                second: 1,
-            },
-            Place::FirstZero => Roles {
-                target: 2,
-                first: 0,
-                second: 1,
-            },
-            Place::SecondZero => Roles {
-                target: 2,
-                first: 1,
-                second: 0,
-            },
-            Place::BothZero => Roles {
-                target: 1,
-                first: 0,
-                second: 0,
-            },
-            Place::TargetZero => Roles {
-                target: 0,
-                first: 1,
-                second: 2,
-            },
+        let (target, first, second) = match self {
+            Place::Apart => (14, 1, 2),
+            Place::FirstIsTarget => (1, 1, 2),
+            Place::SecondIsTarget => (2, 1, 2),
+            Place::AllOne => (1, 1, 1),
+            Place::FirstZero => (2, 0, 1),
+            Place::SecondZero => (2, 1, 0),
+            Place::BothZero => (1, 0, 0),
+            Place::TargetZero => (0, 1, 2),
+        };
+        Roles {
+            target,
+            first,
+            second,
         }
     }
 }
