@@ -1,0 +1,4 @@
+pub mod Cache
+pub mod Tlb
+pub mod Predictor
+pub mod First
