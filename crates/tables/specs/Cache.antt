@@ -42,11 +42,12 @@ hits cache line = has-tag (tag-of line) (held cache line)
 abbrev pub access-cost : Cache → ℕ → ℕ
 access-cost cache line = cond (hits cache line) 0 (miss + cond (is-dirty (held cache line)) write-back 0)
 
--- the line is in the cache afterwards, dirty after a store, and after a load if it was there and dirty
+-- what the cache holds of the line afterwards: dirty after a store, and after a load if it was there and dirty
+abbrev pub renewed : Cache → ℕ → Bool → Line
+renewed cache line store = record { tag = tag-of line; dirty = cond (hits cache line) (is-dirty (held cache line) || store) store }
+
 abbrev pub accessed : Cache → ℕ → Bool → Cache
-accessed cache line store = record {
-    lines = set (cache .lines) (place-of line)
-      (Some (record { tag = tag-of line; dirty = cond (hits cache line) (is-dirty (held cache line) || store) store })) }
+accessed cache line store = record { lines = set (cache .lines) (place-of line) (Some (renewed cache line store)) }
 
 abbrev pub dirty-at : Cache → ℕ → Bool
 dirty-at cache at = is-dirty (getD (cache .lines) at None)

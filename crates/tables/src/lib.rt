@@ -6,6 +6,7 @@ use predictor::Predictor;
 use tlb::Tlb;
 
 pub mod cache;
+pub mod laws;
 pub mod predictor;
 pub mod tlb;
 
