@@ -15,10 +15,10 @@ use Rattle.words.specs.Costs.{cache-lines}
 use Rattle.paging.specs.declared.translate.Place.{Place}
 use Rattle.tables.specs.declared.cache.Cache.{Cache}
 use Rattle.tables.specs.declared.cache.Line.{Line}
-use Rattle.tables.specs.Cache.{access-cost, accessed, empty-cache, has-tag, held, hits, is-dirty, line-of, place-of, renewed, tag-of}
+use Rattle.tables.specs.Cache.{At-hand, access-cost, accessed, empty-cache, has-tag, held, hits, is-dirty, line-of, place-of, renewed, tag-of}
 use Rattle.tables.specs.Rows.{Use, Whole, dirty-in, used}
 use Rattle.tables.specs.History.{Conflict}
-use Rattle.tables.specs.Laws.{Access-costs, At-hand, Comes-in, Driven-out, Frames-conflict}
+use Rattle.tables.specs.Laws.{Access-costs, Comes-in, Driven-out, Frames-conflict}
 
 -- a line's place and tag make up its number
 pub one-line : (a b : ℕ) → place-of a ≡ place-of b → tag-of a ≡ tag-of b → a ≡ b
@@ -96,6 +96,10 @@ pub comes-in : Comes-in
 comes-in cache line store whole =
     let hit = hit-same cache line store whole in
     record { in-cache = hit; free = rw hit refl }
+
+-- the same, of a cache that is what an access leaves
+pub at-hand : (cache next : Cache) (line : ℕ) (store : Bool) → Whole cache → next ≡ accessed cache line store → At-hand next line
+at-hand cache next line store whole e = rw e (comes-in cache line store whole)
 
 pub frames-conflict : Frames-conflict
 frames-conflict cache from to whole o ne =

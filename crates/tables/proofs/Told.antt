@@ -5,10 +5,11 @@ use mathlib.Core.List.{List, [], _∷_, _++_}
 use mathlib.Core.Logic.{_⊎_, inl, inr}
 use Prim.Native.Nat.{ℕ, _+_, _*_, _/_, _%_}
 use native.Mathlib.Omega.{arith}
+use lib.Dec.{eqb}
 use lib.ListN.{getD}
 use Rattle.std.proofs.shelf.Bits.{mod-below}
-use Rattle.std.proofs.shelf.Tests.{and-from, and-left, and-parts, both-ways, cases-bool, cond-true, eq-eqb, or-cases, or-left, or-right}
-use Rattle.std.proofs.shelf.Ways.{decides-like}
+use Rattle.std.proofs.shelf.Tests.{and-from, and-left, and-parts, both-ways, cases-bool, cond-true, eq-eqb, eqb-true, not-from-false, not-true, or-cases, or-left, or-right}
+use Rattle.std.proofs.shelf.Ways.{decides-and, decides-eqb, decides-not}
 use Rattle.std.specs.Orderings.{Decides}
 use Rattle.std.specs.shelf.Lists.{All}
 use Rattle.std.specs.declared.option.Option.{Option}
@@ -17,9 +18,9 @@ use Rattle.words.specs.Costs.{cache-lines, miss, write-back}
 use Rattle.tables.specs.declared.cache.Cache.{Cache}
 use Rattle.tables.specs.declared.cache.Line.{Line}
 use Rattle.tables.specs.Cache.{access-cost, empty-cache, has-tag, held, hits, is-dirty, place-of, tag-of}
-use Rattle.tables.specs.Rows.{Use, Whole, after, dirty-in, used}
+use Rattle.tables.specs.Rows.{Use, Whole, after, conflicts, dirty-in, drives-out, drives-out-line, used}
 use Rattle.tables.specs.History.{Apart, Conflict, Costs, Resident, Since, Stored}
-use Rattle.tables.specs.Laws.{Remembers}
+use Rattle.tables.specs.Laws.{Remembers, Write-backs}
 use Rattle.tables.proofs.Lines.{dirty-away, dirty-gone, dirty-same, held-empty, hit-away, hit-gone, hit-same, meets, one-line, one-tag, whole-accessed, whole-empty}
 
 -- something that is so of a line, comes about by a wanted access to it, and ends with one that conflicts
@@ -116,27 +117,67 @@ holder None d = absurd (let z : _≡_ {A = ℕ} 0 1 = cc in omega arith)
 holder (Some line) d = (line .tag, eq-eqb (line .tag) (line .tag) refl)
 
 module _ (cache : Cache) (line : ℕ) where
-  over-dirty : (other : ℕ) → Conflict other line → dirty-in cache other ≡ true → access-cost cache line ≡ miss + write-back
-  over-dirty other k d =
+  -- a line that conflicts with it and is dirty is what its place holds
+  driven-out : (other : ℕ) → Conflict line other → dirty-in cache other ≡ true → (hits cache line ≡ false) × (is-dirty (held cache line) ≡ true)
+  driven-out other k d =
       let parts = and-parts (hits cache other) (is-dirty (held cache other)) d in
-      let same : held cache other ≡ held cache line = ap (λ at. getD (cache .lines) at None) (k .0) in
-      let gone : hits cache line ≡ false =
-          one-tag (held cache line) (tag-of other) (tag-of line) (ap (has-tag (tag-of other)) (sym same) ∙ parts .0) (λ t. k .1 (one-line other line (k .0) t)) in
-      let dirty : is-dirty (held cache line) ≡ true = ap is-dirty (sym same) ∙ parts .1 in
-      rw (gone, dirty) refl
+      let same : held cache other ≡ held cache line = ap (λ at. getD (cache .lines) at None) (sym (k .0)) in (
+        one-tag (held cache line) (tag-of other) (tag-of line) (ap (has-tag (tag-of other)) (sym same) ∙ parts .0) (λ t. k .1 (one-line line other (k .0) (sym t))),
+        ap is-dirty (sym same) ∙ parts .1)
 
-  over-clean : hits cache line ≡ false → ((other : ℕ) → Conflict other line → dirty-in cache other ≡ true → ⊥) → access-cost cache line ≡ miss
+  -- and what its place holds, if it is dirty, is such a line
+  some-out : hits cache line ≡ false → is-dirty (held cache line) ≡ true → (other : ℕ) × Conflict line other × (dirty-in cache other ≡ true)
+  some-out gone d =
+      let h = holder (held cache line) d in
+      let other = h .0 * 64 + place-of line in
+      let place : place-of other ≡ place-of line = omega (arith, mod-below line 64 (omega arith)) in
+      let tag : tag-of other ≡ h .0 = omega (arith, mod-below line 64 (omega arith)) in
+      let same : held cache other ≡ held cache line = ap (λ at. getD (cache .lines) at None) place in
+      let hit : hits cache other ≡ true = rw (same, tag) (h .1) in
+      let dirty : is-dirty (held cache other) ≡ true = ap is-dirty same ∙ d in (
+        other,
+        (sym place, λ e. both-ways (hits cache line) gone (subst (λ (l : ℕ). hits cache l ≡ true) (sym e) hit)),
+        and-from (hits cache other) (is-dirty (held cache other)) hit dirty)
+
+  over-dirty : (other : ℕ) → Conflict line other → dirty-in cache other ≡ true → access-cost cache line ≡ miss + write-back
+  over-dirty other k d = let out = driven-out other k d in rw (out .0, out .1) refl
+
+  over-clean : hits cache line ≡ false → ((other : ℕ) → Conflict line other → dirty-in cache other ≡ true → ⊥) → access-cost cache line ≡ miss
   over-clean gone none = elim (cases-bool (is-dirty (held cache line))) [
-      inl d ↦ absurd (
-        let h = holder (held cache line) d in
-        let other = h .0 * 64 + place-of line in
-        let place : place-of other ≡ place-of line = omega (arith, mod-below line 64 (omega arith)) in
-        let tag : tag-of other ≡ h .0 = omega (arith, mod-below line 64 (omega arith)) in
-        let same : held cache other ≡ held cache line = ap (λ at. getD (cache .lines) at None) place in
-        let hit : hits cache other ≡ true = rw (same, tag) (h .1) in
-        let dirty : is-dirty (held cache other) ≡ true = ap is-dirty same ∙ d in
-        none other (place, λ e. both-ways (hits cache line) gone (subst (λ (l : ℕ). hits cache l ≡ true) e hit)) (and-from (hits cache other) (is-dirty (held cache other)) hit dirty))
+      inl d ↦ absurd (let out = some-out gone d in none (out .0) (out .1) (out .2))
     | inr d ↦ rw (gone, d) refl ]
+
+-- a place has one line at most
+one-held : (o : Option Line) (a b : ℕ) → has-tag a o ≡ true → has-tag b o ≡ true → a ≡ b
+one-held None a b h k = absurd (let z : _≡_ {A = ℕ} 0 1 = cc in omega arith)
+one-held (Some line) a b h k = sym (eqb-true (line .tag) a h) ∙ eqb-true (line .tag) b k
+
+conflicts-tell : (a b : ℕ) → Decides (conflicts a b) (Conflict a b)
+conflicts-tell a b = decides-and (eqb (place-of a) (place-of b)) (not (eqb a b)) (decides-eqb (place-of a) (place-of b)) (decides-not (eqb a b) (decides-eqb a b))
+
+pub write-backs : Write-backs
+write-backs cache u =
+    let line = u .line in
+    let apart : (other : ℕ) → drives-out-line other cache u ≡ true → (dirty-in cache other ≡ true) × Conflict line other = λ other d.
+        (let p = and-parts (dirty-in cache other) (conflicts line other) d in (p .0, conflicts-tell line other .0 (p .1))) in
+    record {
+      some = (
+        (λ d.
+          let p = and-parts (not (hits cache line)) (is-dirty (held cache line)) d in
+          let out = some-out cache line (not-true (hits cache line) (p .0)) (p .1) in
+          (out .0, and-from (dirty-in cache (out .0)) (conflicts line (out .0)) (out .2) (conflicts-tell line (out .0) .1 (out .1)))),
+        λ s.
+          let p = apart (s .0) (s .1) in
+          let out = driven-out cache line (s .0) (p .1) (p .0) in
+          and-from (not (hits cache line)) (is-dirty (held cache line)) (not-from-false (hits cache line) (out .0)) (out .1));
+      only = λ a b da db.
+        let p = apart a da in
+        let q = apart b db in
+        let place : place-of a ≡ place-of b = sym (p .1 .0) ∙ q .1 .0 in
+        let same : held cache b ≡ held cache a = ap (λ at. getD (cache .lines) at None) (sym place) in
+        one-line a b place (one-held (held cache a) (tag-of a) (tag-of b)
+          (and-parts (hits cache a) (is-dirty (held cache a)) (p .0) .0)
+          (ap (has-tag (tag-of b)) (sym same) ∙ and-parts (hits cache b) (is-dirty (held cache b)) (q .0) .0)) }
 
 never : (b : Bool) → (b ≡ true → ⊥) → b ≡ false
 never true h = absurd (h refl)
@@ -151,5 +192,5 @@ remembers row =
       resident = resident; stored = stored;
       next = λ line. record {
         hit = λ r. cond-true (hits cache line) 0 (miss + cond (is-dirty (held cache line)) write-back 0) (resident line .1 r);
-        over-dirty = λ other k s. over-dirty cache line other k (stored other .1 s);
-        over-clean = λ out none. over-clean cache line (never (hits cache line) (λ h. out (resident line .0 h))) (λ other k d. none other k (stored other .0 d)) } }
+        over-dirty = λ other k s. over-dirty cache line other (sym (k .0), λ e. k .1 (sym e)) (stored other .1 s);
+        over-clean = λ out none. over-clean cache line (never (hits cache line) (λ h. out (resident line .0 h))) (λ other k d. none other (sym (k .0), λ e. k .1 (sym e)) (stored other .0 d)) } }

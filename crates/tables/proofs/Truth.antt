@@ -147,6 +147,15 @@ wrong-at-most : (right : Bool) → cond right 0 misprediction ≤ 3
 wrong-at-most true = omega arith
 wrong-at-most false = omega arith
 
+-- for what a look-up answers and leaves
+pub carried : (tlb after : Tlb) (words : List ℕ) (root page : ℕ) (access : Access) (lookup : Lookup) →
+    lookup ≡ found tlb page access (walked words root page) → after ≡ filled tlb page access (walked words root page) →
+    Honest tlb words root → Truthful after words root page access lookup
+carried tlb after words root page access lookup e f honest = rw (e, f) (truthful words root page tlb honest access)
+
+pub carried-cost : (tlb : Tlb) (page : ℕ) (access : Access) (walk : Option Leaf) (lookup : Lookup) → lookup ≡ found tlb page access walk → lookup .cost ≤ page-walk
+carried-cost tlb page access walk lookup e = rw e (find-at-most tlb page access walk)
+
 pub highest-costs : Highest
 highest-costs = record {
     data-access = λ code tables cache page other line a b walk way.

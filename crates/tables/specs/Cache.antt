@@ -1,5 +1,6 @@
 -- The data cache: 64 lines of 16 words. It knows which lines of memory it holds and which of them are dirty, and no words.
-use mathlib.Core.Bool.{Bool, false, cond, _&&_, _||_}
+use mathlib.Core.Path.{_≡_}
+use mathlib.Core.Bool.{Bool, true, false, cond, _&&_, _||_}
 use Prim.Native.Nat.{ℕ, _+_, _*_, _/_, _%_}
 use lib.Dec.{eqb}
 use lib.ListN.{getD, set, replicate}
@@ -48,6 +49,11 @@ renewed cache line store = record { tag = tag-of line; dirty = cond (hits cache 
 
 abbrev pub accessed : Cache → ℕ → Bool → Cache
 accessed cache line store = record { lines = set (cache .lines) (place-of line) (Some (renewed cache line store)) }
+
+-- a line of memory is in the cache, and an access to it costs nothing
+pub record At-hand (cache : Cache) (line : ℕ) : Type 0 where
+  pub in-cache : hits cache line ≡ true
+  pub free : access-cost cache line ≡ 0
 
 abbrev pub dirty-at : Cache → ℕ → Bool
 dirty-at cache at = is-dirty (getD (cache .lines) at None)

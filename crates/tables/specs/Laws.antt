@@ -3,8 +3,8 @@ use mathlib.Core.Path.{_≡_}
 use mathlib.Core.Bool.{Bool, true, false, cond}
 use mathlib.Core.List.{List}
 use mathlib.Core.Logic.{_⊎_}
-use Prim.Native.Nat.{ℕ, zero, suc, _+_, _*_, _≤_, _<_}
-use lib.ListN.{length}
+use Prim.Native.Nat.{ℕ, _+_, _*_, _≤_, _<_}
+use lib.ListN.{length, replicate}
 use Rattle.std.specs.Options.{isSome}
 use Rattle.std.specs.Orderings.{Decides}
 use Rattle.std.specs.shelf.Lists.{All}
@@ -18,11 +18,12 @@ use Rattle.tables.specs.declared.Tables.{Tables}
 use Rattle.tables.specs.declared.cache.Cache.{Cache}
 use Rattle.tables.specs.declared.predictor.Predictor.{Predictor}
 use Rattle.tables.specs.declared.tlb.Tlb.{Tlb}
-use Rattle.tables.specs.Cache.{access-cost, accessed, dirty-count, empty-cache, hits, line-of}
+use Rattle.tables.specs.Cache.{At-hand, access-cost, accessed, dirty-count, empty-cache, hits, line-of}
 use Rattle.tables.specs.First.{first-tables}
 use Rattle.tables.specs.History.{Costs, Resident, Stored}
 use Rattle.tables.specs.Honest.{Honest, Truthful}
 use Rattle.tables.specs.Predictor.{branch-cost, first-predictor, learned}
+use Rattle.tables.specs.Loops.{Branch, Taken, loop-cost}
 use Rattle.tables.specs.Rows.{Use, Whole, after, brings-in, dirty-in, drives-out, drives-out-line, makes-dirty, makes-line-dirty, row-cost, times, weigh}
 use Rattle.tables.specs.Tlb.{empty-tlb, filled, found, known}
 
@@ -32,10 +33,6 @@ Access-costs = (cache : Cache) (line : ℕ) →
     (access-cost cache line ≡ 0) ⊎ ((access-cost cache line ≡ miss) ⊎ (access-cost cache line ≡ miss + write-back))
 
 -- after an access its line is in the cache, and another access to it at once costs nothing
-pub record At-hand (cache : Cache) (line : ℕ) : Type 0 where
-  pub in-cache : hits cache line ≡ true
-  pub free : access-cost cache line ≡ 0
-
 abbrev pub Comes-in : Type 0
 Comes-in = (cache : Cache) (line : ℕ) (store : Bool) → Whole cache → At-hand (accessed cache line store) line
 
@@ -59,6 +56,14 @@ pub record Charged (row : List Use) : Type 0 where
 abbrev pub Charges : Type 0
 Charges = (row : List Use) → Charged row
 
+-- a write-back is of one line: where a dirty line is driven out, there is one that is, and no other
+pub record Written-back (cache : Cache) (u : Use) : Type 0 where
+  pub some : Decides (drives-out cache u) ((line : ℕ) × (drives-out-line line cache u ≡ true))
+  pub only : (a b : ℕ) → drives-out-line a cache u ≡ true → drives-out-line b cache u ≡ true → a ≡ b
+
+abbrev pub Write-backs : Type 0
+Write-backs = (cache : Cache) (u : Use) → Written-back cache u
+
 -- a store to a place of one frame, and a load from the same place of another: the load drives the stored line out, and costs nothing when repeated
 pub record Driven-out (cache : Cache) (from to : Place) : Type 0 where
   pub first : access-cost (accessed cache (line-of from) true) (line-of to) ≡ miss + write-back
@@ -67,14 +72,14 @@ pub record Driven-out (cache : Cache) (from to : Place) : Type 0 where
 abbrev pub Frames-conflict : Type 0
 Frames-conflict = (cache : Cache) (from to : Place) → Whole cache → from .offset ≡ to .offset → (from .frame ≡ to .frame → ⊥) → Driven-out cache from to
 
--- the cycles of a branch that is taken n times in a row
-unfoldable pub loop-cost : Predictor → ℕ → ℕ → ℕ
-loop-cost predictor address zero = 0
-loop-cost predictor address (suc n) = branch-cost predictor address true + loop-cost (learned predictor address true) address n
+-- from the first state, a branch that is taken n times in a row is mispredicted once, at the first turn;
+-- other branches may lie between, as long as each that has the same counter is taken too
+pub record Predicted (address : ℕ) : Type 0 where
+  pub alone : (n : ℕ) → loop-cost address first-predictor (replicate (n + 1) (record { address = address; taken = true })) ≡ misprediction
+  pub among-others : (row : List Branch) → All (Taken address) row → loop-cost address first-predictor row ≤ misprediction
 
--- from the first state, only the first turn of a loop is mispredicted
 abbrev pub Loops-predicted : Type 0
-Loops-predicted = (address n : ℕ) → loop-cost first-predictor address (n + 1) ≡ misprediction
+Loops-predicted = (address : ℕ) → Predicted address
 
 -- 64 counters from 0 to 3
 pub record In-range (predictor : Predictor) : Type 0 where

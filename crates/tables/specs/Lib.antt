@@ -4,6 +4,7 @@ pub mod Predictor
 pub mod First
 pub mod Rows
 pub mod History
+pub mod Loops
 pub mod Honest
 pub mod Laws
 pub mod Example

@@ -1,8 +1,8 @@
 // The data cache: which lines of memory are at hand, and which of them are dirty. It holds no words; what is loaded and stored lies in the frames at all times.
 ghost use mathlib.Core.Path.{_≡_};
-ghost use Rattle.words.specs.Costs.{cache-lines};
-ghost use Prim.Native.Nat.{_≤_};
-ghost use Rattle.tables.specs.Cache.{access-cost, accessed, dirty-count, empty-cache, has-tag, is-dirty, line-of};
+ghost use Rattle.words.specs.Costs.{cache-lines, miss, write-back};
+ghost use Prim.Native.Nat.{_+_, _≤_};
+ghost use Rattle.tables.specs.Cache.{At-hand, access-cost, accessed, dirty-count, empty-cache, has-tag, is-dirty, line-of};
 use paging::translate::Place;
 use words::costs::CACHE_LINES;
 use words::costs::MISS;
@@ -53,6 +53,8 @@ impl Cache {
     pub fn access(&mut self, place: Place, store: bool) -> u32
         ensures cost { λ r. ⌜ r ≡ access-cost (now (self .entry)) (line-of place) ⌝ }
         ensures after { λ _. ⌜ now (self .exit) ≡ accessed (now (self .entry)) (line-of place) store ⌝ }
+        ensures most { λ r. ⌜ r ≤ miss + write-back ⌝ }
+        ensures there { λ _. ⌜ At-hand (now (self .exit)) (line-of place) ⌝ }
     {
         let at = (place.offset / LINE_BYTES % CACHE_LINES) as usize;
         let tag = place.frame;

@@ -1,5 +1,7 @@
 // The branch predictor: counters from 0 to 3 that tell how the branches at a place went of late.
 ghost use mathlib.Core.Path.{_≡_};
+ghost use Prim.Native.Nat.{_≤_};
+ghost use Rattle.words.specs.Costs.{misprediction};
 ghost use Rattle.tables.specs.Predictor.{branch-cost, first-predictor, learned};
 use words::costs::MISPREDICTION;
 
@@ -26,6 +28,7 @@ impl Predictor {
     pub fn resolve(&mut self, address: u32, taken: bool) -> u32
         ensures cost { λ r. ⌜ r ≡ branch-cost (now (self .entry)) address taken ⌝ }
         ensures after { λ _. ⌜ now (self .exit) ≡ learned (now (self .entry)) address taken ⌝ }
+        ensures most { λ r. ⌜ r ≤ misprediction ⌝ }
     {
         let at = (address / 4 % COUNTERS) as usize;
         let counter = self.counters[at];

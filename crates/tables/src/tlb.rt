@@ -1,6 +1,9 @@
 // The TLB: the leaves of pages that were walked before.
 ghost use mathlib.Core.Path.{_≡_};
+ghost use Prim.Native.Nat.{_≤_};
+ghost use Rattle.words.specs.Costs.{page-walk};
 ghost use Rattle.paging.specs.Walks.{walked};
+ghost use Rattle.tables.specs.Honest.{Honest, Truthful};
 ghost use Rattle.tables.specs.Tlb.{empty-tlb, filled, found, granted, leaf-for, reply};
 use paging::access::Access;
 use paging::leaf::Leaf;
@@ -71,6 +74,8 @@ impl Tlb {
     pub fn find(&mut self, words: &[u32], root: u32, page: u32, access: Access) -> Lookup
         ensures answer { λ r. ⌜ r ≡ found (now (self .entry)) page access (walked (now (words .entry)) root page) ⌝ }
         ensures after { λ _. ⌜ now (self .exit) ≡ filled (now (self .entry)) page access (walked (now (words .entry)) root page) ⌝ }
+        ensures most { λ r. ⌜ r .cost ≤ page-walk ⌝ }
+        ensures honest { λ r. ⌜ (Honest (now (self .entry)) (now (words .entry)) root → Truthful (now (self .exit)) (now (words .entry)) root page access r) ⌝ }
     {
         let at = page as usize % ENTRIES;
         if let Some(leaf) = leaf_for(page, self.entries[at]) {
