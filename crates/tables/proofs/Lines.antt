@@ -1,24 +1,22 @@
 -- One access, seen from any line of memory.
-use mathlib.Core.Path.{_≡_, refl, sym, ap, subst, _∙_}
-use mathlib.Core.Bool.{Bool, true, false, cond, not, _&&_, _||_}
+use mathlib.Core.Path.{_≡_, refl, sym, ap, _∙_}
+use mathlib.Core.Bool.{Bool, true, false, cond, _&&_, _||_}
 use mathlib.Core.Logic.{_⊎_, inl, inr}
-use Prim.Native.Nat.{ℕ, _+_, _*_, _/_, _%_, _<_}
+use Prim.Native.Nat.{ℕ, _+_, _<_}
 use native.Mathlib.Omega.{arith}
-use lib.Dec.{eqb}
 use lib.ListN.{length}
 use Rattle.std.proofs.shelf.Bits.{mod-below}
 use Rattle.std.proofs.shelf.Lists.{getD-set-same, getD-set-other, getD-replicate, length-set, length-replicate}
-use Rattle.std.proofs.shelf.Tests.{and-left, cases-bool, cases-eq, cond-true, eq-eqb, eqb-true, ne-eqb, or-right}
+use Rattle.std.proofs.shelf.Tests.{and-left, cases-eq, eq-eqb, eqb-true, ne-eqb, or-right}
 use Rattle.std.specs.declared.option.Option.{Option}
 use Rattle.std.specs.declared.option.Option.the-variants.{Some, None}
 use Rattle.words.specs.Costs.{cache-lines}
-use Rattle.paging.specs.declared.translate.Place.{Place}
 use Rattle.tables.specs.declared.cache.Cache.{Cache}
 use Rattle.tables.specs.declared.cache.Line.{Line}
-use Rattle.tables.specs.Cache.{At-hand, access-cost, accessed, empty-cache, has-tag, held, hits, is-dirty, line-of, place-of, renewed, tag-of}
-use Rattle.tables.specs.Rows.{Use, Whole, dirty-in, used}
+use Rattle.tables.specs.Cache.{accessed, empty-cache, has-tag, held, hits, is-dirty, line-of, place-of, renewed, tag-of}
+use Rattle.tables.specs.Rows.{Whole, dirty-in}
 use Rattle.tables.specs.History.{Conflict}
-use Rattle.tables.specs.Laws.{Access-costs, Comes-in, Driven-out, Frames-conflict}
+use Rattle.tables.specs.Laws.{Access-costs, Comes-in, Frames-conflict}
 
 -- a line's place and tag make up its number
 pub one-line : (a b : ℕ) → place-of a ≡ place-of b → tag-of a ≡ tag-of b → a ≡ b
@@ -96,10 +94,6 @@ pub comes-in : Comes-in
 comes-in cache line store whole =
     let hit = hit-same cache line store whole in
     record { in-cache = hit; free = rw hit refl }
-
--- the same, of a cache that is what an access leaves
-pub at-hand : (cache next : Cache) (line : ℕ) (store : Bool) → Whole cache → next ≡ accessed cache line store → At-hand next line
-at-hand cache next line store whole e = rw e (comes-in cache line store whole)
 
 pub frames-conflict : Frames-conflict
 frames-conflict cache from to whole o ne =

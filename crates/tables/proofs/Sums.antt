@@ -2,11 +2,10 @@
 use mathlib.Core.Path.{_≡_, refl, sym, ap, subst, _∙_}
 use mathlib.Core.Bool.{Bool, true, false, cond, not, _&&_, _||_}
 use mathlib.Core.List.{List, [], _∷_}
-use mathlib.Core.Logic.{_⊎_, inl, inr}
-use Prim.Native.Nat.{ℕ, _+_, _*_, _%_, _<_}
+use mathlib.Core.Logic.{inl, inr}
+use Prim.Native.Nat.{ℕ, _+_, _*_, _<_}
 use native.Mathlib.Omega.{arith}
 use lib.Dec.{eqb}
-use lib.ListN.{getD, length}
 use Rattle.std.proofs.shelf.Bits.{mod-below}
 use Rattle.std.proofs.shelf.Lists.{getD-set-same, getD-set-other}
 use Rattle.std.proofs.shelf.Tests.{and-left, and-right, and-from, eq-eqb, ne-eqb, not-from-true, not-from-false}
@@ -14,12 +13,11 @@ use Rattle.std.specs.declared.option.Option.{Option}
 use Rattle.std.specs.declared.option.Option.the-variants.{Some, None}
 use Rattle.words.specs.Costs.{cache-lines, miss, write-back}
 use Rattle.words.specs.First.{count}
-use Rattle.words.proofs.First.{count-change, count-same}
+use Rattle.words.proofs.First.{count-change}
 use Rattle.tables.specs.declared.cache.Cache.{Cache}
 use Rattle.tables.specs.declared.cache.Line.{Line}
-use Rattle.tables.specs.Cache.{access-cost, dirty-at, dirty-count, empty-cache, held, has-tag, hits, is-dirty, place-of, renewed, tag-of}
+use Rattle.tables.specs.Cache.{dirty-at, dirty-count, empty-cache, held, has-tag, hits, is-dirty, place-of, renewed, tag-of}
 use Rattle.tables.specs.Rows.{Use, Whole, after, brings-in, conflicts, dirty-in, drives-out, drives-out-line, makes-dirty, makes-line-dirty, row-cost, times, used, weigh}
-use Rattle.tables.specs.History.{Conflict}
 use Rattle.tables.specs.Laws.{Charges}
 use Rattle.tables.proofs.Lines.{dirty-away, dirty-gone, dirty-same, held-empty, meets, whole-accessed, whole-empty}
 

@@ -3,23 +3,23 @@ use mathlib.Core.Path.{_≡_, refl, sym, ap, subst, _∙_}
 use mathlib.Core.Bool.{Bool, true, false, cond, not, _&&_, _||_}
 use mathlib.Core.List.{List, [], _∷_, _++_}
 use mathlib.Core.Logic.{_⊎_, inl, inr}
-use Prim.Native.Nat.{ℕ, _+_, _*_, _/_, _%_}
+use Prim.Native.Nat.{ℕ, _+_, _*_}
 use native.Mathlib.Omega.{arith}
 use lib.Dec.{eqb}
 use lib.ListN.{getD}
 use Rattle.std.proofs.shelf.Bits.{mod-below}
-use Rattle.std.proofs.shelf.Tests.{and-from, and-left, and-parts, both-ways, cases-bool, cond-true, eq-eqb, eqb-true, not-from-false, not-true, or-cases, or-left, or-right}
+use Rattle.std.proofs.shelf.Tests.{and-from, and-parts, both-ways, cases-bool, cond-true, eq-eqb, eqb-true, not-from-false, not-true, or-cases, or-left, or-right}
 use Rattle.std.proofs.shelf.Ways.{decides-and, decides-eqb, decides-not}
 use Rattle.std.specs.Orderings.{Decides}
 use Rattle.std.specs.shelf.Lists.{All}
 use Rattle.std.specs.declared.option.Option.{Option}
 use Rattle.std.specs.declared.option.Option.the-variants.{Some, None}
-use Rattle.words.specs.Costs.{cache-lines, miss, write-back}
+use Rattle.words.specs.Costs.{miss, write-back}
 use Rattle.tables.specs.declared.cache.Cache.{Cache}
 use Rattle.tables.specs.declared.cache.Line.{Line}
 use Rattle.tables.specs.Cache.{access-cost, empty-cache, has-tag, held, hits, is-dirty, place-of, tag-of}
-use Rattle.tables.specs.Rows.{Use, Whole, after, conflicts, dirty-in, drives-out, drives-out-line, used}
-use Rattle.tables.specs.History.{Apart, Conflict, Costs, Resident, Since, Stored}
+use Rattle.tables.specs.Rows.{Use, Whole, after, conflicts, dirty-in, drives-out-line, used}
+use Rattle.tables.specs.History.{Apart, Conflict, Since}
 use Rattle.tables.specs.Laws.{Remembers, Write-backs}
 use Rattle.tables.proofs.Lines.{dirty-away, dirty-gone, dirty-same, held-empty, hit-away, hit-gone, hit-same, meets, one-line, one-tag, whole-accessed, whole-empty}
 

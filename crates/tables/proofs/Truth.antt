@@ -1,9 +1,9 @@
 -- What a look-up gives, and an honest TLB.
-use mathlib.Core.Path.{_≡_, refl, sym, ap, subst, _∙_}
-use mathlib.Core.Bool.{Bool, true, false, cond, not}
+use mathlib.Core.Path.{_≡_, refl, sym, ap, _∙_}
+use mathlib.Core.Bool.{Bool, true, false, cond}
 use mathlib.Core.List.{List}
-use mathlib.Core.Logic.{_⊎_, inl, inr}
-use Prim.Native.Nat.{ℕ, zero, suc, _+_, _/_, _%_, _≤_, _<_}
+use mathlib.Core.Logic.{inl, inr}
+use Prim.Native.Nat.{ℕ, zero, suc, _≤_, _<_}
 use native.Mathlib.Omega.{arith}
 use lib.Dec.{eqb}
 use lib.ListN.{getD, length, replicate}
@@ -15,22 +15,21 @@ use Rattle.std.specs.Options.{isSome}
 use Rattle.std.specs.shelf.Lists.{All}
 use Rattle.std.specs.declared.option.Option.{Option}
 use Rattle.std.specs.declared.option.Option.the-variants.{Some, None}
-use Rattle.words.specs.Costs.{highest, highest-branch, instruction, misprediction, page-walk}
+use Rattle.words.specs.Costs.{misprediction, page-walk}
 use Rattle.paging.specs.declared.access.Access.{Access}
 use Rattle.paging.specs.declared.leaf.Leaf.{Leaf}
 use Rattle.paging.specs.Accesses.{permitted}
 use Rattle.paging.specs.Walks.{then-place, translated, walked}
-use Rattle.paging.proofs.Tell.{guarded, some-same}
+use Rattle.paging.proofs.Tell.{guarded}
 use Rattle.tables.specs.declared.cache.Cache.{Cache}
-use Rattle.tables.specs.declared.predictor.Predictor.{Predictor}
 use Rattle.tables.specs.declared.tlb.Lookup.{Lookup}
 use Rattle.tables.specs.declared.tlb.Tlb.{Tlb}
 use Rattle.tables.specs.declared.tlb.TlbEntry.{TlbEntry}
 use Rattle.tables.specs.Cache.{access-cost}
-use Rattle.tables.specs.Predictor.{branch-cost, is-right}
-use Rattle.tables.specs.Tlb.{empty-tlb, entry-of, filled, filled-by, found, found-by, granted, known, leaf-for, put, reply}
+use Rattle.tables.specs.Predictor.{is-right}
+use Rattle.tables.specs.Tlb.{entry-of, filled, filled-by, found, found-by, granted, known, leaf-for, put, reply}
 use Rattle.tables.specs.Honest.{Honest, True-entry, Truthful, reached}
-use Rattle.tables.specs.Laws.{Highest, Honesty, Look-ups, Looked-up}
+use Rattle.tables.specs.Laws.{Highest, Honesty, Look-ups}
 use Rattle.tables.proofs.Lines.{access-costs}
 
 reply-cost : (cost : ℕ) (o : Option Leaf) → reply cost o .cost ≡ cost

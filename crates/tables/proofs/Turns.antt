@@ -1,9 +1,9 @@
 -- Branches that are taken again and again.
-use mathlib.Core.Path.{_≡_, refl, sym, ap, subst, _∙_}
+use mathlib.Core.Path.{_≡_, refl, sym, ap, _∙_}
 use mathlib.Core.Bool.{Bool, true, false, cond}
 use mathlib.Core.List.{List, [], _∷_}
 use mathlib.Core.Logic.{_⊎_, inl, inr}
-use Prim.Native.Nat.{ℕ, zero, suc, _+_, _/_, _%_, _≤_, _<_, min}
+use Prim.Native.Nat.{ℕ, zero, suc, _+_, _/_, _≤_, _<_, min}
 use native.Mathlib.Numerals.{add-one}
 use native.Mathlib.Omega.{arith}
 use lib.Dec.{eqb, leb}
@@ -15,9 +15,9 @@ use Rattle.std.proofs.shelf.Tests.{cases-eq, cases-lt, eq-eqb, le-leb, ne-eqb}
 use Rattle.std.specs.shelf.Lists.{All}
 use Rattle.words.specs.Costs.{misprediction}
 use Rattle.tables.specs.declared.predictor.Predictor.{Predictor}
-use Rattle.tables.specs.Predictor.{branch-cost, counted, counter, counter-of, first-predictor, learned, predicts}
+use Rattle.tables.specs.Predictor.{branch-cost, counted, counter, counter-of, first-predictor, learned}
 use Rattle.tables.specs.Loops.{Branch, Taken, loop-cost}
-use Rattle.tables.specs.Laws.{Counters-stay, In-range, Loops-predicted}
+use Rattle.tables.specs.Laws.{Counters-stay, Loops-predicted}
 
 abbrev As-many : Predictor → Type 0
 As-many predictor = length (predictor .counters) ≡ 64

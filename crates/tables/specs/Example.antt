@@ -8,7 +8,6 @@ use Rattle.words.specs.Costs.{instruction, miss, page-walk, write-back}
 use Rattle.words.specs.Frames.{written}
 use Rattle.paging.specs.declared.access.Access.{Access}
 use Rattle.paging.specs.declared.access.Access.the-variants.{Fetch, Load, Store}
-use Rattle.paging.specs.declared.translate.Place.{Place}
 use Rattle.paging.specs.Walks.{walked}
 use Rattle.tables.specs.declared.Tables.{Tables}
 use Rattle.tables.specs.declared.tlb.Lookup.{Lookup}

@@ -3,23 +3,21 @@ use mathlib.Core.Path.{_≡_}
 use mathlib.Core.Bool.{Bool, true, false, cond}
 use mathlib.Core.List.{List}
 use mathlib.Core.Logic.{_⊎_}
-use Prim.Native.Nat.{ℕ, _+_, _*_, _≤_, _<_}
+use Prim.Native.Nat.{ℕ, _+_, _*_, _≤_}
 use lib.ListN.{length, replicate}
 use Rattle.std.specs.Options.{isSome}
 use Rattle.std.specs.Orderings.{Decides}
 use Rattle.std.specs.shelf.Lists.{All}
 use Rattle.std.specs.declared.option.Option.{Option}
-use Rattle.words.specs.Costs.{cache-lines, highest, highest-branch, instruction, miss, misprediction, page-walk, write-back}
+use Rattle.words.specs.Costs.{highest, highest-branch, instruction, miss, misprediction, page-walk, write-back}
 use Rattle.paging.specs.declared.access.Access.{Access}
 use Rattle.paging.specs.declared.leaf.Leaf.{Leaf}
 use Rattle.paging.specs.declared.translate.Place.{Place}
 use Rattle.paging.specs.Walks.{walked}
-use Rattle.tables.specs.declared.Tables.{Tables}
 use Rattle.tables.specs.declared.cache.Cache.{Cache}
 use Rattle.tables.specs.declared.predictor.Predictor.{Predictor}
 use Rattle.tables.specs.declared.tlb.Tlb.{Tlb}
 use Rattle.tables.specs.Cache.{At-hand, access-cost, accessed, dirty-count, empty-cache, hits, line-of}
-use Rattle.tables.specs.First.{first-tables}
 use Rattle.tables.specs.History.{Costs, Resident, Stored}
 use Rattle.tables.specs.Honest.{Honest, Truthful}
 use Rattle.tables.specs.Predictor.{branch-cost, first-predictor, learned}

@@ -1,21 +1,14 @@
 -- The TLB: 16 entries, each with the number of a page and its leaf.
-use mathlib.Core.Path.{_≡_}
-use mathlib.Core.Bool.{Bool, true, false, cond}
-use mathlib.Core.List.{List}
+use mathlib.Core.Bool.{true, false, cond}
 use Prim.Native.Nat.{ℕ, _%_}
 use lib.Dec.{eqb}
 use lib.ListN.{getD, set, replicate}
 use Rattle.std.specs.declared.option.Option.{Option}
 use Rattle.std.specs.declared.option.Option.the-variants.{Some, None}
-use Rattle.std.specs.declared.result.Result.{Result}
-use Rattle.std.specs.declared.result.Result.the-variants.{Ok, Err}
 use Rattle.words.specs.Costs.{page-walk}
 use Rattle.paging.specs.declared.access.Access.{Access}
 use Rattle.paging.specs.declared.leaf.Leaf.{Leaf}
-use Rattle.paging.specs.declared.translate.PageFault.{PageFault}
-use Rattle.paging.specs.declared.translate.Place.{Place}
-use Rattle.paging.specs.Accesses.{page-fault, permitted}
-use Rattle.paging.specs.Walks.{walked}
+use Rattle.paging.specs.Accesses.{permitted}
 use Rattle.tables.specs.declared.tlb.Lookup.{Lookup}
 use Rattle.tables.specs.declared.tlb.Tlb.{Tlb}
 use Rattle.tables.specs.declared.tlb.TlbEntry.{TlbEntry}

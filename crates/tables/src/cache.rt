@@ -56,7 +56,7 @@ impl Cache {
         ensures most { λ r. ⌜ r ≤ miss + write-back ⌝ }
         ensures there { λ _. ⌜ At-hand (now (self .exit)) (line-of place) ⌝ }
     {
-        let at = (place.offset / LINE_BYTES % CACHE_LINES) as usize;
+        let at = (place.offset / LINE_BYTES) as usize % LINES;
         let tag = place.frame;
         let old = self.lines[at];
         let (hit, dirty) = (has_tag(old, tag), is_dirty(old));

@@ -5,7 +5,7 @@ ghost use Rattle.words.specs.Costs.{misprediction};
 ghost use Rattle.tables.specs.Predictor.{branch-cost, first-predictor, learned};
 use words::costs::MISPREDICTION;
 
-const COUNTERS: u32 = 64;
+const COUNTERS: usize = 64;
 const HIGHEST: u8 = 3;
 // From here on a counter predicts that the branch is taken.
 const TAKEN: u8 = 2;
@@ -14,14 +14,14 @@ const FIRST: u8 = 1;
 
 #[derive(Clone, Copy)]
 pub struct Predictor {
-    counters: [u8; COUNTERS as usize],
+    counters: [u8; COUNTERS],
 }
 
 impl Predictor {
     pub fn new() -> Self
         ensures { λ r. ⌜ r ≡ first-predictor ⌝ }
     {
-        Predictor { counters: [FIRST; COUNTERS as usize] }
+        Predictor { counters: [FIRST; COUNTERS] }
     }
 
     // A branch at an address is taken or not: the cycles that it costs beyond its instruction's own.
@@ -30,7 +30,7 @@ impl Predictor {
         ensures after { λ _. ⌜ now (self .exit) ≡ learned (now (self .entry)) address taken ⌝ }
         ensures most { λ r. ⌜ r ≤ misprediction ⌝ }
     {
-        let at = (address / 4 % COUNTERS) as usize;
+        let at = (address / 4) as usize % COUNTERS;
         let counter = self.counters[at];
         self.counters[at] = match taken {
             true => if counter < HIGHEST { counter + 1 } else { HIGHEST },

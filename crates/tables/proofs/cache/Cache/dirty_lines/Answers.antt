@@ -1,6 +1,5 @@
 use borrow.Author.Needs.{needs}
 use Rattle.words.proofs.First.{count-none, count-more, count-at-most}
-use Rattle.words.specs.Costs.{cache-lines}
 use Rattle.tables.specs.Cache.{dirty-at}
 use Rattle.tables.proofs.cache.Cache.dirty_lines.Needs as need
 
