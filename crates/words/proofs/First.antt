@@ -93,6 +93,21 @@ module _ (f : ℕ → Bool) where
     | inr e ↦ simp e (omega (arith, count-at-most n))
   ]
 
+module _ (f g : ℕ → Bool) where
+  pub count-same : (n : ℕ) → ((k : ℕ) → k < n → f k ≡ g k) → count f n ≡ count g n
+  unfolding count
+  count-same zero same = refl
+  count-same (suc n) same = rw (count-same n (λ k l. same k (omega arith)), same n (omega arith)) refl
+
+  -- two questions that differ at one place
+  pub count-change : (at n : ℕ) → at < n → ((k : ℕ) → (k ≡ at → ⊥) → f k ≡ g k) → count f n + cond (g at) 1 0 ≡ count g n + cond (f at) 1 0
+  unfolding count
+  count-change at zero l same = absurd (omega arith)
+  count-change at (suc n) l same = elim (cases-lt at n) [
+    | inl h ↦ rw (same n (λ e. omega arith)) (omega (arith, count-change at n h same))
+    | inr h ↦ let s : at ≡ n = omega arith in rw s (omega (arith, count-same n (λ k b. same k (λ e. omega arith))))
+  ]
+
 module _ (f : ℕ → ℕ) where
   pub most-none : most f 0 ≡ 0
   unfolding most

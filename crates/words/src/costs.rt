@@ -9,6 +9,8 @@ pub const WALK: u32 = 30;
 pub const MISS: u32 = 20;
 // a dirty line that leaves the cache
 pub const WRITE_BACK: u32 = 10;
+// a branch that the predictor got wrong
+pub const MISPREDICTION: u32 = 3;
 // a word of a message that is copied
 pub const COPIED_WORD: u32 = 1;
 
@@ -16,6 +18,8 @@ pub const CACHE_LINES: u32 = 64;
 
 // The highest cost of an instruction: a load or store whose code page, data page and line are all missing, over a dirty line.
 pub const HIGHEST: u32 = INSTRUCTION + WALK + WALK + MISS + WRITE_BACK;
+// The highest cost of a branch, which has no data: its code page is missing, and the predictor got it wrong.
+pub const HIGHEST_BRANCH: u32 = INSTRUCTION + WALK + MISPREDICTION;
 // The highest cost of a switch that carries no message: the last instruction began in the slot's last cycle, and every line is dirty.
 pub const SWITCH: u32 = HIGHEST - 1 + CACHE_LINES * WRITE_BACK;
 // The cost of a message: one frame.

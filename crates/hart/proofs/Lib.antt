@@ -1,0 +1,5 @@
+pub mod Replacing
+pub mod Ran
+pub mod Agreeing
+pub mod Honesty
+pub mod Worked

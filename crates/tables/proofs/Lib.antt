@@ -1,0 +1,6 @@
+pub mod Lines
+pub mod Told
+pub mod Sums
+pub mod Turns
+pub mod Truth
+pub mod Worked

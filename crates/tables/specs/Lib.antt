@@ -1,0 +1,10 @@
+pub mod Cache
+pub mod Tlb
+pub mod Predictor
+pub mod First
+pub mod Rows
+pub mod History
+pub mod Loops
+pub mod Honest
+pub mod Laws
+pub mod Example
