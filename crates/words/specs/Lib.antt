@@ -4,3 +4,4 @@ pub mod Frames
 pub mod Laws
 pub mod Costs
 pub mod First
+pub mod Events

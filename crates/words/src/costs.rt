@@ -1,4 +1,6 @@
 // What things cost in cycles: one constant each, and what is computed from them. A board with other costs changes them here.
+ghost use mathlib.Core.Path.{_≡_};
+ghost use Rattle.words.specs.Events.{event-cost};
 use crate::frames::FRAME_WORDS;
 
 // every instruction
@@ -24,3 +26,28 @@ pub const HIGHEST_BRANCH: u32 = INSTRUCTION + WALK + MISPREDICTION;
 pub const SWITCH: u32 = HIGHEST - 1 + CACHE_LINES * WRITE_BACK;
 // The cost of a message: one frame.
 pub const MESSAGE: u32 = FRAME_WORDS as u32 * COPIED_WORD;
+
+// What an event costs.
+#[derive(Clone, Copy)]
+pub enum Event {
+    Instruction,
+    Walk,
+    Miss,
+    WriteBack,
+    Misprediction,
+    CopiedWord,
+}
+
+// The constant of an event, which is the one that the definitions have.
+pub fn cost_of(event: Event) -> u32
+    ensures { λ r. ⌜ r ≡ event-cost event ⌝ }
+{
+    match event {
+        Event::Instruction => INSTRUCTION,
+        Event::Walk => WALK,
+        Event::Miss => MISS,
+        Event::WriteBack => WRITE_BACK,
+        Event::Misprediction => MISPREDICTION,
+        Event::CopiedWord => COPIED_WORD,
+    }
+}
