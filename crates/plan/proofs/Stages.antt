@@ -19,7 +19,7 @@ use Rattle.plan.specs.declared.model.Plan.{Plan}
 use Rattle.plan.specs.declared.refusal.Count.{Count}
 use Rattle.plan.specs.declared.refusal.Count.the-variants.{Partitions, Slots, Channels}
 use Rattle.plan.specs.declared.refusal.Refusal.{Refusal}
-use Rattle.plan.specs.declared.refusal.Refusal.the-variants.{Truncated, CountRange, SlotRule, ChannelRule, StartMisaligned, BudgetRule, FramesMissing, Surplus}
+use Rattle.plan.specs.declared.refusal.Refusal.the-variants.{Truncated, CountRange, SlotRule, ChannelRule, ChannelPage, RootRule, TableMalformed, FrameShared, StartMisaligned, BudgetRule, FramesMissing, Surplus}
 use Rattle.plan.specs.Format.{plan-of, plan-size}
 use Rattle.plan.specs.Refused.{number-of, place-of, refusal, count-at, Named}
 use Rattle.plan.specs.Rules.{fault, parsed, broken-unless, truncated, surplus, count-kept, count-fault, slot-kept, slot-fault, channel-kept, channel-fault, start-kept, start-fault, budget-kept, budget-fault}
@@ -33,6 +33,10 @@ named (CountRange Slots) = refl
 named (CountRange Channels) = refl
 named (SlotRule k) = refl
 named (ChannelRule k) = refl
+named (ChannelPage k) = refl
+named (RootRule k) = refl
+named (TableMalformed k) = refl
+named (FrameShared k) = refl
 named (StartMisaligned k) = refl
 named BudgetRule = refl
 named FramesMissing = refl
