@@ -13,11 +13,11 @@ use Rattle.std.specs.declared.option.Option.the-variants.{Some, None}
 use Rattle.plan.specs.declared.refusal.Refusal.{Refusal}
 use Rattle.plan.specs.declared.refusal.Refusal.the-variants.{Truncated, CountRange, SlotRule, ChannelRule, ChannelPage, RootRule, TableMalformed, FrameShared, StartMisaligned, BudgetRule, FramesMissing, Surplus}
 use Rattle.plan.specs.Format.{plan-of, plan-size}
-use Rattle.plan.specs.Refused.{number-of}
+use Rattle.plan.specs.Refused.{number-of, place-of}
 use Rattle.plan.specs.Rules.{fault, parsed, count-kept, slot-kept, channel-kept, start-kept, budget-kept}
 use Rattle.plan.specs.Lawful.{Lawful, Broken, First-broken, Judges, Count-fits, Slot-fits, Channel-fits, Start-fits, Budget-fits}
 use Rattle.plan.proofs.Chain.{After, chain, last}
-use Rattle.plan.proofs.Stages.{truncated-stage, counts-stage, slots-stage, channels-stage, starts-stage, budget-stage, surplus-stage}
+use Rattle.plan.proofs.Stages.{itself, truncated-stage, counts-stage, slots-stage, channels-stage, starts-stage, budget-stage, surplus-stage}
 use Rattle.plan.proofs.Stages.{count-decides, slot-decides, channel-decides, start-decides, budget-decides}
 
 above : (d : Refusal) → 0 < number-of d
@@ -66,16 +66,16 @@ module _ (bytes : List ℕ) where
   after-10 FramesMissing l b = absurd b
   after-10 (Surplus at) l b = refl
 
-  all : After (Broken bytes) (fault bytes (plan-of bytes)) 0
+  all : After number-of place-of itself (Broken bytes) (fault bytes (plan-of bytes)) 0
   unfolding fault
   all =
-      chain (Broken bytes) _ _ 0 1 (omega arith) (λ d l b. omega arith) (truncated-stage bytes)
-      (chain (Broken bytes) _ _ 1 2 (omega arith) (λ d l b. omega arith) (counts-stage bytes)
-      (chain (Broken bytes) _ _ 2 3 (omega arith) (λ d l b. omega arith) (slots-stage bytes)
-      (chain (Broken bytes) _ _ 3 4 (omega arith) (λ d l b. omega arith) (channels-stage bytes)
-      (chain (Broken bytes) _ _ 4 9 (omega arith) after-4 (starts-stage bytes)
-      (chain (Broken bytes) _ _ 9 10 (omega arith) (λ d l b. omega arith) (budget-stage bytes)
-      (last (Broken bytes) _ 10 12 (omega arith) after-10 (surplus-stage bytes)))))))
+      chain number-of place-of itself (Broken bytes) _ _ 0 1 (omega arith) (λ d l b. omega arith) (truncated-stage bytes) (λ _.
+      chain number-of place-of itself (Broken bytes) _ _ 1 2 (omega arith) (λ d l b. omega arith) (counts-stage bytes) (λ _.
+      chain number-of place-of itself (Broken bytes) _ _ 2 3 (omega arith) (λ d l b. omega arith) (slots-stage bytes) (λ _.
+      chain number-of place-of itself (Broken bytes) _ _ 3 4 (omega arith) (λ d l b. omega arith) (channels-stage bytes) (λ _.
+      chain number-of place-of itself (Broken bytes) _ _ 4 9 (omega arith) after-4 (starts-stage bytes) (λ _.
+      chain number-of place-of itself (Broken bytes) _ _ 9 10 (omega arith) (λ d l b. omega arith) (budget-stage bytes) (λ _.
+      last number-of place-of itself (Broken bytes) _ 10 12 (omega arith) after-10 (surplus-stage bytes)))))))
 
   lawful-kept : Lawful bytes → (d : Refusal) → Broken bytes d → ⊥
   unfolding Broken
@@ -114,7 +114,10 @@ module _ (bytes : List ℕ) where
       record { accepts = λ _. rw e; cases = rw e (lawful, refl) }
   judged-at (Some x) e =
       let z = all .broken x e in
-      record { accepts = λ h. absurd (lawful-kept h x (z .0)); cases = rw e (record { broken = z .0; first = λ d b. z .2 d (above d) b }) }
+      record {
+        accepts = λ h. absurd (lawful-kept h (z .0) (z .2));
+        cases = rw e (subst (First-broken bytes) (z .1) (record { broken = z .2; first = λ d b. z .4 d (above d) b }));
+      }
 
   pub judged : Judges bytes (parsed bytes)
   judged = judged-at (fault bytes (plan-of bytes)) refl

@@ -64,9 +64,12 @@ Broken bytes BudgetRule = Budget-fits (plan-of bytes) → ⊥
 Broken bytes FramesMissing = ⊥
 Broken bytes (Surplus at) = (plan-size (plan-of bytes .counts) < length bytes) × (at ≡ plan-size (plan-of bytes .counts))
 
--- a refusal comes before another: by its number, and within a number by its place
+-- one finding comes before another: by its rule, and within a rule by its place
+abbrev pub Earlier : {F : Type 0} → (F → ℕ) → (F → ℕ) → F → F → Type 0
+Earlier rule place e d = (rule e < rule d) ⊎ ((rule e ≡ rule d) × (place e ≤ place d))
+
 abbrev pub Before : Refusal → Refusal → Type 0
-Before e d = (number-of e < number-of d) ⊎ ((number-of e ≡ number-of d) × (place-of e ≤ place-of d))
+Before = Earlier number-of place-of
 
 -- of all rules that are broken, the first
 pub record First-broken (bytes : List ℕ) (e : Refusal) : Type 0 where
