@@ -13,6 +13,7 @@ use Rattle.paging.specs.Tables.{Kernel-frame, Names}
 use Rattle.plan.specs.declared.model.Endpoint.{Endpoint}
 use Rattle.plan.specs.declared.model.Plan.{Plan}
 use Rattle.plan.specs.Rules.{channel, partition}
+use Rattle.checker.specs.declared.pages.Ends.{Ends}
 
 -- all words of a frame are lent
 abbrev pub Lent : List ℕ → ℕ → Type 0
@@ -47,6 +48,58 @@ pub data Tables-unread (words : List ℕ) (root : ℕ) : Type 0 where
   no-root : (Lent words root → ⊥) → Tables-unread words root
   no-table : (k table : ℕ) → k < 1024 → Pointer (word words root k) table → table < 256 → (Lent words table → ⊥) →
       ((j : ℕ) → j < k → Entry-fits words (word words root j)) → Tables-unread words root
+
+-- a page leads to a leaf of one of the 256 frames; whether that frame is lent is not asked
+pub record Leads (words : List ℕ) (root page : ℕ) (leaf : Leaf) : Type 0 where
+  pub high : ℕ
+  pub low : ℕ
+  pub table : ℕ
+  pub high-below : high < 1024
+  pub low-below : low < 1024
+  pub number : page ≡ high * 1024 + low
+  pub points : Pointer (word words root high) table
+  pub leads : Leaf-entry (word words table low) leaf
+  pub root-there : In-memory words root
+  pub table-there : In-memory words table
+  pub frame-below : leaf .frame < 256
+
+-- it cannot be looked up: the root, or the table that it leads to, is one of the 256 frames and not lent
+pub data Page-unread (words : List ℕ) (root page : ℕ) : Type 0 where
+  no-root : page < 1048576 → root < 256 → (Lent words root → ⊥) → Page-unread words root page
+  no-table : (high low table : ℕ) → high < 1024 → low < 1024 → page ≡ high * 1024 + low → In-memory words root →
+      Pointer (word words root high) table → table < 256 → (Lent words table → ⊥) → Page-unread words root page
+
+-- an end of a channel has the frame: its page leads to a leaf that may be read, and, where it receives, not written
+pub record Usable (words : List ℕ) (p : Plan) (end : Endpoint) (receives : Bool) (frame : ℕ) : Type 0 where
+  pub leaf : Leaf
+  pub leads : Leads words (root p (end .partition)) (end .page) leaf
+  pub readable : leaf .readable ≡ true
+  pub not-writable : receives ≡ true → leaf .writable ≡ false
+  pub frame-is : leaf .frame ≡ frame
+
+-- channel k joins two frames
+pub record Joins (words : List ℕ) (p : Plan) (k : ℕ) (ends : Ends) : Type 0 where
+  pub sender : Usable words p (channel p k .sender) false (ends .sender)
+  pub receiver : Usable words p (channel p k .receiver) true (ends .receiver)
+
+-- one frame is an end of both
+abbrev pub Touch : Ends → Ends → Type 0
+Touch a b = (a .sender ≡ b .sender) ⊎ ((a .sender ≡ b .receiver) ⊎ ((a .receiver ≡ b .sender) ⊎ (a .receiver ≡ b .receiver)))
+
+-- channel k joins two frames, neither of them an end of an earlier channel
+pub record Pages-fit (words : List ℕ) (p : Plan) (k : ℕ) : Type 0 where
+  pub ends : Ends
+  pub joins : Joins words p k ends
+  pub alone : (j : ℕ) → j < k → (others : Ends) → Joins words p j others → Touch ends others → ⊥
+
+abbrev pub End-unread : List ℕ → Plan → Endpoint → Type 0
+End-unread words p end = Page-unread words (root p (end .partition)) (end .page)
+
+-- its pages cannot be looked up: the sender's, or the receiver's where the sender's end is usable
+abbrev pub Pages-unread : List ℕ → Plan → ℕ → Type 0
+Pages-unread words p k =
+    End-unread words p (channel p k .sender)
+    ⊎ (((frame : ℕ) × Usable words p (channel p k .sender) false frame) × End-unread words p (channel p k .receiver))
 
 -- two partitions are in conflict over a frame that the first names: the other names it too, or has it as its root or a table
 abbrev pub Conflict : List ℕ → Plan → ℕ → ℕ → Type 0
