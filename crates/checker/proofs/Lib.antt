@@ -4,3 +4,4 @@ pub mod Shares
 pub mod Forms
 pub mod Conflicts
 pub mod Ended
+pub mod Joined

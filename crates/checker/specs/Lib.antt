@@ -6,3 +6,4 @@ pub mod Sharing
 pub mod Pages
 pub mod Checked
 pub mod Lawful
+pub mod Found
