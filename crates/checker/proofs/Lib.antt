@@ -5,3 +5,5 @@ pub mod Forms
 pub mod Conflicts
 pub mod Ended
 pub mod Joined
+pub mod Staged
+pub mod Judged

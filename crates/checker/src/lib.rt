@@ -1,6 +1,7 @@
 // The rules on the frames that a plan runs in, and the checker of all rules.
 ghost use mathlib.Core.Path.{_≡_};
 ghost use Rattle.checker.specs.Checked.{checked};
+ghost use Rattle.checker.specs.Found.{Accepted-separate, Judges};
 pub mod fault;
 pub mod marks;
 pub mod pages;
@@ -24,6 +25,14 @@ pub struct Accepted {
     pub ends: [Ends; 16],
 }
 
+// The plan that the bytes say, with the frames of its channels, or the refusal of the first rule that it or the lent words break.
+pub fn check(bytes: &[u8], words: &[u32]) -> Result<Accepted, Refusal>
+    ensures value { λ r. ⌜ r ≡ checked (now (bytes .entry)) (now (words .entry)) ⌝ }
+    ensures verdict { λ r. ⌜ Judges (now (bytes .entry)) (now (words .entry)) r ⌝ }
+{
+    first_refusal(bytes, words)
+}
+
 fn first_refusal(bytes: &[u8], words: &[u32]) -> Result<Accepted, Refusal>
     ensures { λ r. ⌜ r ≡ checked (now (bytes .entry)) (now (words .entry)) ⌝ }
 {
@@ -45,3 +54,8 @@ fn first_refusal(bytes: &[u8], words: &[u32]) -> Result<Accepted, Refusal>
         ends: all_ends(words, &plan),
     })
 }
+
+// In an accepted plan no frame is named by two partitions, and no kernel frame by any.
+pub fn laws()
+    ensures { λ _. ⌜ Accepted-separate ⌝ }
+{}

@@ -77,7 +77,7 @@ module _ (bytes : List ℕ) where
       chain number-of place-of itself (Broken bytes) _ _ 9 10 (omega arith) (λ d l b. omega arith) (budget-stage bytes) (λ _.
       last number-of place-of itself (Broken bytes) _ 10 12 (omega arith) after-10 (surplus-stage bytes)))))))
 
-  lawful-kept : Lawful bytes → (d : Refusal) → Broken bytes d → ⊥
+  pub lawful-kept : Lawful bytes → (d : Refusal) → Broken bytes d → ⊥
   unfolding Broken
   lawful-kept h (Truncated at) b = omega (arith, h .whole, b .0)
   lawful-kept h (CountRange c) b = b (h .counts c)
@@ -92,10 +92,10 @@ module _ (bytes : List ℕ) where
   lawful-kept h FramesMissing b = b
   lawful-kept h (Surplus at) b = omega (arith, h .no-surplus, b .0)
 
-  decided : {P : Type 0} (t : Bool) → Decides t P → ((P → ⊥) → ⊥) → P
+  pub decided : {P : Type 0} (t : Bool) → Decides t P → ((P → ⊥) → ⊥) → P
   decided t d h = elim (cases-bool t) [ inl e ↦ d .0 e | inr e ↦ absurd (h (λ p. both-ways t e (d .1 p))) ]
 
-  kept-lawful : ((d : Refusal) → Broken bytes d → ⊥) → Lawful bytes
+  pub kept-lawful : ((d : Refusal) → Broken bytes d → ⊥) → Lawful bytes
   unfolding Broken
   kept-lawful h = record {
     whole = elim (cases-lt (length bytes) (plan-size (plan-of bytes .counts))) [ inl l ↦ absurd (h (Truncated (length bytes)) (l, refl)) | inr l ↦ l ];
