@@ -1,4 +1,6 @@
 // The verdict on a plan together with the image whose words are lent to it.
+#![tactic(auto)]
+
 ghost use Rattle.std.specs.Prelude.{◌≡◌};
 ghost use Rattle.admission.specs.Admitted.{Admits, admitted};
 

@@ -1,4 +1,6 @@
 // check PLAN IMAGE: prints 'accepted', or the refusal of the first rule that the plan or its image breaks.
+#![tactic(auto)]
+
 use console::arguments::{argument, arguments, asks_help, at_most};
 use console::files::read_up_to;
 use console::problem::{Problem, Program};

@@ -1,4 +1,6 @@
 // The rules on the frames that a plan runs in, and the checker of all rules.
+#![tactic(auto)]
+
 ghost use Rattle.std.specs.Prelude.{◌≡◌};
 ghost use Rattle.checker.specs.Checked.{TellsAll, checked};
 ghost use Rattle.checker.specs.Found.{AcceptedSeparate, AcceptedUnshared, CheckedJudges, Judges};

@@ -1,4 +1,6 @@
 // Runs the vectors of the public RISC-V test suite (rv32ui) through decoding and the ALU, and counts them.
+#![tactic(auto)]
+
 mod bench;
 mod row;
 mod rows;

@@ -1,4 +1,6 @@
 // An image of memory: a count of frames in two bytes, low byte first, then the frames, each 1,024 words of four bytes.
+#![tactic(auto)]
+
 ghost use Rattle.std.specs.Prelude.{◌≡◌, IfOk};
 ghost use Rattle.words.specs.First.{unless};
 ghost use Rattle.image.specs.Frames.{Admits, TellsAll, admitted, image_fault, image_words, lent_frames, longest};

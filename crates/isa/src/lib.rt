@@ -1,4 +1,6 @@
 // The instructions of RV32I: decoding, the ALU, branch conditions and the registers.
+#![tactic(auto)]
+
 pub mod alu;
 pub mod branch;
 pub mod decode;

@@ -1,4 +1,6 @@
 // judge PLAN IMAGE: prints 'accepted', or the refusal of the first rule that the plan or its image breaks.
+#![tactic(auto)]
+
 use console::arguments::{argument, at_most, is_word};
 use console::files::read_up_to;
 use console::problem::{Problem, Program, VERSION};

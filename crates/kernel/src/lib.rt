@@ -1,4 +1,6 @@
 // The kernel: slots by the plan, a switch after each, and messages over its channels.
+#![tactic(auto)]
+
 pub mod inside;
 pub mod machine;
 pub mod report;

@@ -1,4 +1,6 @@
 // operate PLAN IMAGE SLOTS, operate PLAN IMAGE --slots N: prints a line for each slot of a run, as it goes.
+#![tactic(auto)]
+
 mod line;
 
 use console::arguments::{argument, at_most, is_word};

@@ -1,4 +1,6 @@
 // The plan: its bytes, the rules that it has to keep, and the clock at which each slot begins.
+#![tactic(auto)]
+
 pub mod ends;
 pub mod format;
 pub mod laws;

@@ -1,4 +1,6 @@
 // run PLAN IMAGE SLOTS, run PLAN IMAGE --slots N: prints a line for each slot of a run, as it goes.
+#![tactic(auto)]
+
 use console::arguments::{argument, arguments, asks_help, at_most};
 use console::files::read_up_to;
 use console::problem::{Problem, Program};

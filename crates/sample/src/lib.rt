@@ -1,4 +1,6 @@
 // One plan with its memory: accepted wherever its second partition keeps its frames, and refused where it shares one with the first.
+#![tactic(auto)]
+
 ghost use Rattle.sample.specs.Verdicts.{Accepts, Agrees, Differs, Examples, Refuses};
 
 pub fn laws()

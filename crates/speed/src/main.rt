@@ -1,4 +1,6 @@
 // speed N: runs a loop for N instructions, one step after the other, and prints what it took in cycles. `time` tells how long that is.
+#![tactic(auto)]
+
 use anyhow::anyhow;
 use hart::context::{Context, State};
 use hart::remembering::step_remembering;

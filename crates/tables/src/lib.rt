@@ -1,4 +1,6 @@
 // The three tables of the core in which programs leave traces: cache, TLB and branch predictor, and what each use of them costs.
+#![tactic(auto)]
+
 ghost use Rattle.std.specs.Prelude.{◌≡◌};
 ghost use Rattle.tables.specs.First.{first_tables};
 

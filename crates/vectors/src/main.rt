@@ -1,4 +1,6 @@
 // Runs the vectors of the public RISC-V test suite (rv32ui) and worked cases on a hart with a small memory, and counts them.
+#![tactic(auto)]
+
 mod accesses;
 mod cases;
 mod jumps;

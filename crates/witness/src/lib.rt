@@ -1,4 +1,6 @@
 // A plan that runs: two systems that agree on one partition and differ elsewhere, and two programs with their first slots.
+#![tactic(auto)]
+
 ghost use Rattle.witness.specs.Pair.{Pairs};
 ghost use Rattle.witness.specs.Programs.{FirstSlots, OtherProgram};
 
