@@ -2,53 +2,53 @@ use Rattle.std.proofs.Common.{rules}
 use Rattle.checker.specs.Checked.{checked, first_refusal}
 use Rattle.checker.proofs.first_refusal.Goals as goal
 
-pub returns-in-err-check-whole : goal.returns-in-err-check-whole
+pub returns-in_err-check_whole : goal.returns-in_err-check_whole
 unfolding checked first_refusal
-returns-in-err-check-whole c = search rules
+returns-in_err-check_whole c = search rules
 
-pub returns-in-err-check : goal.returns-in-err-check
+pub returns-in_err-check : goal.returns-in_err-check
 unfolding checked first_refusal
-returns-in-err-check c = search rules
+returns-in_err-check c = search rules
 
-pub returns-in-err-check-slots : goal.returns-in-err-check-slots
+pub returns-in_err-check_slots : goal.returns-in_err-check_slots
 unfolding checked first_refusal
-returns-in-err-check-slots c = search rules
+returns-in_err-check_slots c = search rules
 
-pub returns-in-err-check-channels : goal.returns-in-err-check-channels
+pub returns-in_err-check_channels : goal.returns-in_err-check_channels
 unfolding checked first_refusal
-returns-in-err-check-channels c = search rules
+returns-in_err-check_channels c = search rules
 
-pub returns-in-err-check-pages : goal.returns-in-err-check-pages
+pub returns-in_err-check_pages : goal.returns-in_err-check_pages
 unfolding checked first_refusal
-returns-in-err-check-pages c = search rules
+returns-in_err-check_pages c = search rules
 
-pub returns-in-err-check-roots : goal.returns-in-err-check-roots
+pub returns-in_err-check_roots : goal.returns-in_err-check_roots
 unfolding checked first_refusal
-returns-in-err-check-roots c = search rules
+returns-in_err-check_roots c = search rules
 
-pub returns-in-err-check-tables : goal.returns-in-err-check-tables
+pub returns-in_err-check_tables : goal.returns-in_err-check_tables
 unfolding checked first_refusal
-returns-in-err-check-tables c = search rules
+returns-in_err-check_tables c = search rules
 
-pub returns-in-err-check-sharing : goal.returns-in-err-check-sharing
+pub returns-in_err-check_sharing : goal.returns-in_err-check_sharing
 unfolding checked first_refusal
-returns-in-err-check-sharing c = search rules
+returns-in_err-check_sharing c = search rules
 
-pub returns-in-err-check-starts : goal.returns-in-err-check-starts
+pub returns-in_err-check_starts : goal.returns-in_err-check_starts
 unfolding checked first_refusal
-returns-in-err-check-starts c = search rules
+returns-in_err-check_starts c = search rules
 
-pub returns-in-err-check-budget : goal.returns-in-err-check-budget
+pub returns-in_err-check_budget : goal.returns-in_err-check_budget
 unfolding checked first_refusal
-returns-in-err-check-budget c = search rules
+returns-in_err-check_budget c = search rules
 
-pub returns-in-err-check-lent : goal.returns-in-err-check-lent
+pub returns-in_err-check_lent : goal.returns-in_err-check_lent
 unfolding checked first_refusal
-returns-in-err-check-lent c = search rules
+returns-in_err-check_lent c = search rules
 
-pub returns-in-err-check-end : goal.returns-in-err-check-end
+pub returns-in_err-check_end : goal.returns-in_err-check_end
 unfolding checked first_refusal
-returns-in-err-check-end c = search rules
+returns-in_err-check_end c = search rules
 
 pub returns : goal.returns
 unfolding checked first_refusal

@@ -7,8 +7,8 @@ use Rattle.image.proofs.load.Goals as goal
 
 pub loop-k-preserved : goal.loop-k-preserved
 loop-k-preserved c =
-    pushed (c.u32-at.result ∷ []) c.loop-k.invariant c.in-ok-push.was c.push.ensures.items
-    ∙ (rw c.u32-at.ensures (sym (map-range_with_len_more (image_word c.args.image.now) 0 c.loop-k.k c.loop-k.k (omega arith))))
+    pushed (c.u32_at.result ∷ []) c.loop-k.invariant c.in_ok-push.was c.push.ensures.items
+    ∙ (rw c.u32_at.ensures (sym (map-range_with_len_more (image_word c.args.image.now) 0 c.loop-k.k c.loop-k.k (omega arith))))
 
 pub returns : goal.returns
 unfolding image_words

@@ -7,7 +7,7 @@ pub loop-table-init : goal.loop-table-init
 loop-table-init c = λ f l. marks_none (get_or c.args.named.now f false) (named_through c.args.words.now c.args.tables.now f)
 
 pub loop-table-preserved : goal.loop-table-preserved
-loop-table-preserved c = λ f l. marks_more (get_or c.args.named.now f false) (get_or c.loop-table.named f false) _ (named_through c.args.words.now c.args.tables.now f) c.loop-table.table (c.loop-table.invariant f l) (let e = c.mark-table-if.ensures f l in search rules)
+loop-table-preserved c = λ f l. marks_more (get_or c.args.named.now f false) (get_or c.loop-table.named f false) _ (named_through c.args.words.now c.args.tables.now f) c.loop-table.table (c.loop-table.invariant f l) (let e = c.mark_table_if.ensures f l in search rules)
 
 pub returns : goal.returns
 returns c = search rules

@@ -8,12 +8,12 @@ pub loop-k-init : goal.loop-k-init
 loop-k-init c = first_none (page_refusal c.args.words.now c.args.plan.now)
 
 pub loop-k-preserved : goal.loop-k-preserved
-loop-k-preserved c = checked_more (page_refusal c.args.words.now c.args.plan.now) c.loop-k.k tt c.in-ok-check-pages-of.field-0 c.loop-k.invariant (sym c.check-pages-of.ensures ∙ c.in-ok-check-pages-of.was)
+loop-k-preserved c = checked_more (page_refusal c.args.words.now c.args.plan.now) c.loop-k.k tt c.in_ok-check_pages_of.field-0 c.loop-k.invariant (sym c.check_pages_of.ensures ∙ c.in_ok-check_pages_of.was)
 
-pub returns-in-err-check-pages-of : goal.returns-in-err-check-pages-of
-returns-in-err-check-pages-of c =
-    let p = err_from_is_err_and c.from-residual.result c.from-residual.ensures.1 in
-    rw (p.1, p.2) (sym (checked_stops (page_refusal c.args.words.now c.args.plan.now) c.loop-k.k c.args.plan.now.counts.channels tt c.in-err-check-pages-of.field-0.0 c.loop-k-test.true c.loop-k.invariant (sym c.check-pages-of.ensures ∙ c.in-err-check-pages-of.was)))
+pub returns-in_err-check_pages_of : goal.returns-in_err-check_pages_of
+returns-in_err-check_pages_of c =
+    let p = err_from_is_err_and c.from_residual.result c.from_residual.ensures.1 in
+    rw (p.1, p.2) (sym (checked_stops (page_refusal c.args.words.now c.args.plan.now) c.loop-k.k c.args.plan.now.counts.channels tt c.in_err-check_pages_of.field-0.0 c.loop-k-test.true c.loop-k.invariant (sym c.check_pages_of.ensures ∙ c.in_err-check_pages_of.was)))
 
 pub returns : goal.returns
 returns c = sym (checked_all (page_refusal c.args.words.now c.args.plan.now) c.loop-k.k c.args.plan.now.counts.channels tt c.loop-k.invariant (omega arith))

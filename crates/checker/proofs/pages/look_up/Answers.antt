@@ -6,25 +6,25 @@ pub returns-then-high-ge-ENTRIES : goal.returns-then-high-ge-ENTRIES
 unfolding looked_up
 returns-then-high-ge-ENTRIES c = search rules
 
-pub returns-in-err-check-frame : goal.returns-in-err-check-frame
+pub returns-in_err-check_frame : goal.returns-in_err-check_frame
 unfolding looked_up
-returns-in-err-check-frame c = search rules
+returns-in_err-check_frame c = search rules
 
-pub returns-then-not-is-pointer : goal.returns-then-not-is-pointer
+pub returns-then-not-is_pointer : goal.returns-then-not-is_pointer
 unfolding looked_up
-returns-then-not-is-pointer c = search rules
+returns-then-not-is_pointer c = search rules
 
-pub returns-in-err-check-frame-2 : goal.returns-in-err-check-frame-2
+pub returns-in_err-check_frame-2 : goal.returns-in_err-check_frame-2
 unfolding looked_up
-returns-in-err-check-frame-2 c = search rules
+returns-in_err-check_frame-2 c = search rules
 
-pub returns-then-leaf-lt-MOST-FRAMES : goal.returns-then-leaf-lt-MOST-FRAMES
+pub returns-then-leaf-lt-MOST_FRAMES : goal.returns-then-leaf-lt-MOST_FRAMES
 unfolding looked_up
-returns-then-leaf-lt-MOST-FRAMES c = search rules
+returns-then-leaf-lt-MOST_FRAMES c = search rules
 
-pub returns-else-leaf-lt-MOST-FRAMES : goal.returns-else-leaf-lt-MOST-FRAMES
+pub returns-else-leaf-lt-MOST_FRAMES : goal.returns-else-leaf-lt-MOST_FRAMES
 unfolding looked_up
-returns-else-leaf-lt-MOST-FRAMES c = search rules
+returns-else-leaf-lt-MOST_FRAMES c = search rules
 
 pub returns-in-None : goal.returns-in-None
 unfolding looked_up

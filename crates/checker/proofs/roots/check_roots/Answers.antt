@@ -8,12 +8,12 @@ pub loop-k-init : goal.loop-k-init
 loop-k-init c = first_none (root_refusal c.args.words.now c.args.plan.now)
 
 pub loop-k-preserved : goal.loop-k-preserved
-loop-k-preserved c = checked_more (root_refusal c.args.words.now c.args.plan.now) c.loop-k.k tt c.in-ok-check-root.field-0 c.loop-k.invariant (sym c.check-root.ensures ∙ c.in-ok-check-root.was)
+loop-k-preserved c = checked_more (root_refusal c.args.words.now c.args.plan.now) c.loop-k.k tt c.in_ok-check_root.field-0 c.loop-k.invariant (sym c.check_root.ensures ∙ c.in_ok-check_root.was)
 
-pub returns-in-err-check-root : goal.returns-in-err-check-root
-returns-in-err-check-root c =
-    let p = err_from_is_err_and c.from-residual.result c.from-residual.ensures.1 in
-    rw (p.1, p.2) (sym (checked_stops (root_refusal c.args.words.now c.args.plan.now) c.loop-k.k c.args.plan.now.counts.partitions tt c.in-err-check-root.field-0.0 c.loop-k-test.true c.loop-k.invariant (sym c.check-root.ensures ∙ c.in-err-check-root.was)))
+pub returns-in_err-check_root : goal.returns-in_err-check_root
+returns-in_err-check_root c =
+    let p = err_from_is_err_and c.from_residual.result c.from_residual.ensures.1 in
+    rw (p.1, p.2) (sym (checked_stops (root_refusal c.args.words.now c.args.plan.now) c.loop-k.k c.args.plan.now.counts.partitions tt c.in_err-check_root.field-0.0 c.loop-k-test.true c.loop-k.invariant (sym c.check_root.ensures ∙ c.in_err-check_root.was)))
 
 pub returns : goal.returns
 returns c = sym (checked_all (root_refusal c.args.words.now c.args.plan.now) c.loop-k.k c.args.plan.now.counts.partitions tt c.loop-k.invariant (omega arith))

@@ -6,8 +6,8 @@ use Rattle.checker.proofs.sharing.has_missing.Goals as goal
 pub loop-f-init : goal.loop-f-init
 loop-f-init c = search (rules, any_none)
 
-pub returns-then-not-is-lent : goal.returns-then-not-is-lent
-returns-then-not-is-lent c = sym (any_here (missing_mark c.args.words.now c.args.named.now) 256 c.loop-f.f c.loop-f-test.true (search rules))
+pub returns-then-not-is_lent : goal.returns-then-not-is_lent
+returns-then-not-is_lent c = sym (any_here (missing_mark c.args.words.now c.args.named.now) 256 c.loop-f.f c.loop-f-test.true (search rules))
 
 pub loop-f-preserved : goal.loop-f-preserved
 loop-f-preserved c = search (rules, any_more)

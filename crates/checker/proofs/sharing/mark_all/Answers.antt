@@ -9,6 +9,6 @@ loop-who-init c = ((λ f l. marks_none (get_or c.args.named.now f false) (named_
 pub loop-who-preserved : goal.loop-who-preserved
 unfolding named_at
 loop-who-preserved c = (
-  (λ f l. marks_more (get_or c.args.named.now f false) (get_or c.loop-who.named f false) _ (named_at c.args.words.now c.args.plan.now f) c.loop-who.who (c.loop-who.invariant.0 f l) (let e = c.mark-partition.ensures.named f l in search rules)),
+  (λ f l. marks_more (get_or c.args.named.now f false) (get_or c.loop-who.named f false) _ (named_at c.args.words.now c.args.plan.now f) c.loop-who.who (c.loop-who.invariant.0 f l) (let e = c.mark_partition.ensures.named f l in search rules)),
   search rules,
 )

@@ -8,12 +8,12 @@ pub loop-k-init : goal.loop-k-init
 loop-k-init c = first_none (table_refusal c.args.words.now c.args.plan.now)
 
 pub loop-k-preserved : goal.loop-k-preserved
-loop-k-preserved c = checked_more (table_refusal c.args.words.now c.args.plan.now) c.loop-k.k tt c.in-ok-check-tables-of.field-0 c.loop-k.invariant (sym c.check-tables-of.ensures ∙ c.in-ok-check-tables-of.was)
+loop-k-preserved c = checked_more (table_refusal c.args.words.now c.args.plan.now) c.loop-k.k tt c.in_ok-check_tables_of.field-0 c.loop-k.invariant (sym c.check_tables_of.ensures ∙ c.in_ok-check_tables_of.was)
 
-pub returns-in-err-check-tables-of : goal.returns-in-err-check-tables-of
-returns-in-err-check-tables-of c =
-    let p = err_from_is_err_and c.from-residual.result c.from-residual.ensures.1 in
-    rw (p.1, p.2) (sym (checked_stops (table_refusal c.args.words.now c.args.plan.now) c.loop-k.k c.args.plan.now.counts.partitions tt c.in-err-check-tables-of.field-0.0 c.loop-k-test.true c.loop-k.invariant (sym c.check-tables-of.ensures ∙ c.in-err-check-tables-of.was)))
+pub returns-in_err-check_tables_of : goal.returns-in_err-check_tables_of
+returns-in_err-check_tables_of c =
+    let p = err_from_is_err_and c.from_residual.result c.from_residual.ensures.1 in
+    rw (p.1, p.2) (sym (checked_stops (table_refusal c.args.words.now c.args.plan.now) c.loop-k.k c.args.plan.now.counts.partitions tt c.in_err-check_tables_of.field-0.0 c.loop-k-test.true c.loop-k.invariant (sym c.check_tables_of.ensures ∙ c.in_err-check_tables_of.was)))
 
 pub returns : goal.returns
 returns c = sym (checked_all (table_refusal c.args.words.now c.args.plan.now) c.loop-k.k c.args.plan.now.counts.partitions tt c.loop-k.invariant (omega arith))

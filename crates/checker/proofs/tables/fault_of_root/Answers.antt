@@ -5,9 +5,9 @@ use Rattle.words.proofs.First.{first_none, first_more, first_stays}
 use Rattle.checker.specs.Tables.{root_fault, entry_fault_at}
 use Rattle.checker.proofs.tables.fault_of_root.Goals as goal
 
-pub returns-then-not-is-lent : goal.returns-then-not-is-lent
+pub returns-then-not-is_lent : goal.returns-then-not-is_lent
 unfolding root_fault
-returns-then-not-is-lent c = search rules
+returns-then-not-is_lent c = search rules
 
 pub loop-k-init : goal.loop-k-init
 loop-k-init c = (
@@ -25,7 +25,7 @@ returns-in-Some c =
 pub loop-k-preserved : goal.loop-k-preserved
 loop-k-preserved c = (
   first_more (entry_fault_at c.args.words.now c.args.root) c.loop-k.k c.loop-k.invariant.0 (search rules),
-  c.fault-of-entry.ensures.known,
+  c.fault_of_entry.ensures.known,
   search rules,
 )
 

@@ -6,10 +6,10 @@ pub returns-in-Err : goal.returns-in-Err
 unfolding table_fault
 returns-in-Err c = search rules
 
-pub returns-then-is-bad-table : goal.returns-then-is-bad-table
+pub returns-then-is_bad_table : goal.returns-then-is_bad_table
 unfolding table_fault
-returns-then-is-bad-table c = search rules
+returns-then-is_bad_table c = search rules
 
-pub returns-else-is-bad-table : goal.returns-else-is-bad-table
+pub returns-else-is_bad_table : goal.returns-else-is_bad_table
 unfolding table_fault
-returns-else-is-bad-table c = search rules
+returns-else-is_bad_table c = search rules

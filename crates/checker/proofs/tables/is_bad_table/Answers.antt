@@ -6,9 +6,9 @@ use Rattle.checker.proofs.tables.is_bad_table.Goals as goal
 pub loop-k-init : goal.loop-k-init
 loop-k-init c = any_none (bad_leaf_at c.args.words.now c.args.table)
 
-pub returns-then-is-bad : goal.returns-then-is-bad
+pub returns-then-is_bad : goal.returns-then-is_bad
 unfolding bad_table
-returns-then-is-bad c = sym (any_here (bad_leaf_at c.args.words.now c.args.table) 1024 c.loop-k.k c.loop-k-test.true (search rules))
+returns-then-is_bad c = sym (any_here (bad_leaf_at c.args.words.now c.args.table) 1024 c.loop-k.k c.loop-k-test.true (search rules))
 
 pub loop-k-preserved : goal.loop-k-preserved
 loop-k-preserved c = any_more (bad_leaf_at c.args.words.now c.args.table) c.loop-k.k c.loop-k.invariant (search rules)

@@ -12,13 +12,13 @@ shifted word shift count value old new fits room o n =
     let part : field word shift count * 2 ^ shift < 2 ^ 32 = omega (arith, r.part) in
     (rw (o, mod-eq_of_lt part), rw (n, mod-eq_of_lt r.value_below), r)
 
-pub overflow-sub-result : goal.overflow-sub-result
-overflow-sub-result c =
+pub overflow_sub-result : goal.overflow_sub-result
+overflow_sub-result c =
     let s = shifted c.args.word c.args.shift c.args.count 0 c.bits.result (field 0 0 c.args.count) (omega arith) (omega arith) c.bits.ensures refl in
     omega (arith, s.0, s.2.part)
 
-pub overflow-add-result : goal.overflow-add-result
-overflow-add-result c =
+pub overflow_add-result : goal.overflow_add-result
+overflow_add-result c =
     let s = shifted c.args.word c.args.shift c.args.count c.args.value c.bits.result c.bits-2.result (omega arith) (omega arith) c.bits.ensures c.bits-2.ensures in
     rw (s.0, s.1) (search (rules, s.2.below))
 

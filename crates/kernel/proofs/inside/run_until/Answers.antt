@@ -2,7 +2,7 @@ use Rattle.std.proofs.Common.{◌≡◌, ℕ, ◌+◌, ◌-◌, ◌≤◌, max, 
 use Rattle.kernel.specs.Inside.{Inside, beginning, is_ready, until}
 use Rattle.kernel.proofs.Running.{done, enough, turned}
 use Rattle.kernel.proofs.inside.run_until.Goals as goal
-use Rattle.kernel.proofs.inside.run_until.Goals.{then-loop-clock-test+else-is-ready, else-loop-clock-test}
+use Rattle.kernel.proofs.inside.run_until.Goals.{then-loop-clock-test+else-is_ready, else-loop-clock-test}
 
 pub loop-clock-init : goal.loop-clock-init
 loop-clock-init c =
@@ -14,10 +14,10 @@ pub loop-clock-preserved : goal.loop-clock-preserved
 loop-clock-preserved c =
     let stop = c.args.begin + c.from.result in
     let x : Inside = record { context = c.loop-clock.context; tables = c.loop-clock.tables; words = c.loop-clock.words; clock = c.loop-clock.clock; instructions = c.loop-clock.instructions } in
-    let e = c.step-remembering.ensures in (
+    let e = c.step_remembering.ensures in (
       omega arith,
       omega arith,
-      turned c.args.root stop x c.step-remembering.new.context c.step-remembering.new.tables c.step-remembering.new.words c.from-clock.result _ c.loop-clock-test.true (sym c.if-is-ready.ensures)
+      turned c.args.root stop x c.step_remembering.new.context c.step_remembering.new.tables c.step_remembering.new.words c.from-clock.result _ c.loop-clock-test.true (sym c.if-is_ready.ensures)
           e.context e.tables e.words (c.from-clock.ensures ∙ e.cost) c.loop-clock.invariant.2,
     )
 
@@ -26,7 +26,7 @@ returns c =
     let stop = c.args.begin + c.from.result in
     let x : Inside = record { context = c.loop-clock.context; tables = c.loop-clock.tables; words = c.loop-clock.words; clock = c.loop-clock.clock; instructions = c.loop-clock.instructions } in
     let why : (stop ≤ c.loop-clock.clock) ⊎ (is_ready c.loop-clock.context.state ≡ false) =
-    elim c.loop-clock-test.branch [ then-loop-clock-test+else-is-ready w ↦ inr (sym w.if-is-ready.ensures) | else-loop-clock-test w ↦ inl w.loop-clock-test.false ] in
+    elim c.loop-clock-test.branch [ then-loop-clock-test+else-is_ready w ↦ inr (sym w.if-is_ready.ensures) | else-loop-clock-test w ↦ inl w.loop-clock-test.false ] in
     let goal = until c.args.root (c.args.begin + c.args.length) c.args.length (beginning c.args.context.now c.args.tables.now c.args.words.now c.args.begin) in
     let all : record { context = x.context; tables = x.tables; words = x.words; clock = max x.clock stop; instructions = x.instructions } ≡ goal =
     sym (done c.args.root stop x why) ∙ c.loop-clock.invariant.2 ∙ ap (λ n. until c.args.root (c.args.begin + n) c.args.length (beginning c.args.context.now c.args.tables.now c.args.words.now c.args.begin)) c.from.ensures in

@@ -3,11 +3,11 @@ use Rattle.paging.specs.Walks.{walked}
 use Rattle.paging.proofs.Found.{finds}
 use Rattle.paging.proofs.walk.walk.Goals as goal
 
-pub returns-in-err-table : goal.returns-in-err-table
+pub returns-in_err-table : goal.returns-in_err-table
 unfolding walked
-returns-in-err-table c =
-    let is : c.from-residual.result ≡ walked c.args.words.now c.args.root c.args.page = search rules in
-    record { value = is; finds = finds c.args.words.now c.args.root c.args.page c.from-residual.result is }
+returns-in_err-table c =
+    let is : c.from_residual.result ≡ walked c.args.words.now c.args.root c.args.page = search rules in
+    record { value = is; finds = finds c.args.words.now c.args.root c.args.page c.from_residual.result is }
 
 pub returns : goal.returns
 unfolding walked

@@ -6,25 +6,25 @@ pub returns-then-bytes-size : goal.returns-then-bytes-size
 unfolding parsed fault
 returns-then-bytes-size c = search rules
 
-pub returns-in-err-check : goal.returns-in-err-check
+pub returns-in_err-check : goal.returns-in_err-check
 unfolding parsed fault
-returns-in-err-check c = search rules
+returns-in_err-check c = search rules
 
-pub returns-in-err-check-slots : goal.returns-in-err-check-slots
+pub returns-in_err-check_slots : goal.returns-in_err-check_slots
 unfolding parsed fault
-returns-in-err-check-slots c = search rules
+returns-in_err-check_slots c = search rules
 
-pub returns-in-err-check-channels : goal.returns-in-err-check-channels
+pub returns-in_err-check_channels : goal.returns-in_err-check_channels
 unfolding parsed fault
-returns-in-err-check-channels c = search rules
+returns-in_err-check_channels c = search rules
 
-pub returns-in-err-check-starts : goal.returns-in-err-check-starts
+pub returns-in_err-check_starts : goal.returns-in_err-check_starts
 unfolding parsed fault
-returns-in-err-check-starts c = search rules
+returns-in_err-check_starts c = search rules
 
-pub returns-in-err-check-budget : goal.returns-in-err-check-budget
+pub returns-in_err-check_budget : goal.returns-in_err-check_budget
 unfolding parsed fault
-returns-in-err-check-budget c = search rules
+returns-in_err-check_budget c = search rules
 
 pub returns-then-bytes-size-2 : goal.returns-then-bytes-size-2
 unfolding parsed fault

@@ -12,10 +12,10 @@ loop-turn-init c = (slots_none _ _, refl, refl)
 
 pub loop-turn-preserved : goal.loop-turn-preserved
 loop-turn-preserved c =
-    let k = c.in-ok-kernel.kernel in
+    let k = c.in_ok-kernel.kernel in
     let now = in_words c.loop-turn.kernel c.loop-turn.words in
     let start = in_words k c.args.words.now in
-    let e = c.run-slot-last.ensures in
+    let e = c.run_slot-last.ensures in
     let inv = c.loop-turn.invariant in (
       slots_more k.accepted c.loop-turn.-turn start now _ inv.0 (e.system ∙ ap (λ (a : Accepted). after_slot a now) inv.1),
       e.accepted ∙ inv.1,
@@ -26,10 +26,10 @@ pub returns : goal.returns
 returns c =
     let bytes = c.args.bytes.now in
     let words = c.args.words.now in
-    let start = c.in-ok-kernel.kernel in
+    let start = c.in_ok-kernel.kernel in
     let l = c.loop-turn in
     let all : c.loop-turn.-turn ≡ c.args.count = omega arith in
-    let starts_so = c.in-ok-kernel.ensures.value in
+    let starts_so = c.in_ok-kernel.ensures.value in
     record {
       value = finished_value bytes words start l.kernel l.words c.args.count l.-turn l.last starts_so all l.invariant.0 l.invariant.1 l.invariant.2;
       words = finished_words bytes words start l.kernel l.words c.args.count l.-turn l.last starts_so all l.invariant.0 l.invariant.1 l.invariant.2;

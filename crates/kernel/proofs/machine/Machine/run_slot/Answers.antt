@@ -17,16 +17,16 @@ returns c =
     let a = c.args.accepted.now in
     let m = c.args.self.now in
     let ws = c.args.words.now in
-    let slot = c.slot-of-slot.result in
-    let e = c.run-until-ran.ensures in
+    let slot = c.slot_of-slot.result in
+    let e = c.run_until-ran.ensures in
     let read : c.index-self-who.result ≡ context_of m slot.partition = search (rules, get_or_read) in
-    let goes = can a.plan m slot c.slot-of-slot.ensures (omega arith) (omega arith) (omega arith) in
-    let end = same_end a.plan m ws slot c.partition.result c.from-root.result (get_or m.contexts slot.partition c.index-self-who.result) c.slot-of-slot.ensures c.partition.ensures c.from-root.ensures (sym c.index-self-who.is ∙ read) in
-    let x : Inside = record { context = c.run-until-ran.new.context; tables = c.run-until-ran.new.tables; words = c.run-until-ran.new.words; clock = c.run-until-ran.result.clock; instructions = c.run-until-ran.result.instructions } in
+    let goes = can a.plan m slot c.slot_of-slot.ensures (omega arith) (omega arith) (omega arith) in
+    let end = same_end a.plan m ws slot c.partition.result c.from-root.result (get_or m.contexts slot.partition c.index-self-who.result) c.slot_of-slot.ensures c.partition.ensures c.from-root.ensures (sym c.index-self-who.is ∙ read) in
+    let x : Inside = record { context = c.run_until-ran.new.context; tables = c.run_until-ran.new.tables; words = c.run_until-ran.new.words; clock = c.run_until-ran.result.clock; instructions = c.run_until-ran.result.instructions } in
     let ends : x ≡ ended a.plan (system m ws) =
     inside_is x.context x.tables x.words x.clock x.instructions _ e.context e.tables e.words e.clock e.instructions ∙ end in
     record {
-      value = ap (λ (s : Slot). Some (record { slot = m.turn; partition = s.partition; begin = m.clock; end = x.clock; instructions = x.instructions; pc = x.context.pc; state = x.context.state })) c.slot-of-slot.ensures ∙ told a m ws x goes ends;
-      machine = c.switch.ensures ∙ machine_after a m ws x goes ends slot c.slot-of-slot.ensures;
-      words = c.deliver.ensures ∙ words_after a m ws x goes ends slot c.slot-of-slot.ensures;
+      value = ap (λ (s : Slot). Some (record { slot = m.turn; partition = s.partition; begin = m.clock; end = x.clock; instructions = x.instructions; pc = x.context.pc; state = x.context.state })) c.slot_of-slot.ensures ∙ told a m ws x goes ends;
+      machine = c.switch.ensures ∙ machine_after a m ws x goes ends slot c.slot_of-slot.ensures;
+      words = c.deliver.ensures ∙ words_after a m ws x goes ends slot c.slot_of-slot.ensures;
     }

@@ -8,12 +8,12 @@ pub loop-k-init : goal.loop-k-init
 loop-k-init c = first_none (slot_fault c.args.self.now)
 
 pub loop-k-preserved : goal.loop-k-preserved
-loop-k-preserved c = checked_more (slot_fault c.args.self.now) c.loop-k.k tt c.in-ok-check-slot.field-0 c.loop-k.invariant (sym c.check-slot.ensures ∙ c.in-ok-check-slot.was)
+loop-k-preserved c = checked_more (slot_fault c.args.self.now) c.loop-k.k tt c.in_ok-check_slot.field-0 c.loop-k.invariant (sym c.check_slot.ensures ∙ c.in_ok-check_slot.was)
 
-pub returns-in-err-check-slot : goal.returns-in-err-check-slot
-returns-in-err-check-slot c =
-    let p = err_from_is_err_and c.from-residual.result c.from-residual.ensures.1 in
-    rw (p.1, p.2) (sym (checked_stops (slot_fault c.args.self.now) c.loop-k.k c.args.self.now.counts.slots tt c.in-err-check-slot.field-0.0 c.loop-k-test.true c.loop-k.invariant (sym c.check-slot.ensures ∙ c.in-err-check-slot.was)))
+pub returns-in_err-check_slot : goal.returns-in_err-check_slot
+returns-in_err-check_slot c =
+    let p = err_from_is_err_and c.from_residual.result c.from_residual.ensures.1 in
+    rw (p.1, p.2) (sym (checked_stops (slot_fault c.args.self.now) c.loop-k.k c.args.self.now.counts.slots tt c.in_err-check_slot.field-0.0 c.loop-k-test.true c.loop-k.invariant (sym c.check_slot.ensures ∙ c.in_err-check_slot.was)))
 
 pub returns : goal.returns
 returns c = sym (checked_all (slot_fault c.args.self.now) c.loop-k.k c.args.self.now.counts.slots tt c.loop-k.invariant (omega arith))

@@ -8,12 +8,12 @@ pub loop-k-init : goal.loop-k-init
 loop-k-init c = first_none (start_fault c.args.self.now)
 
 pub loop-k-preserved : goal.loop-k-preserved
-loop-k-preserved c = checked_more (start_fault c.args.self.now) c.loop-k.k tt c.in-ok-check-start.field-0 c.loop-k.invariant (sym c.check-start.ensures ∙ c.in-ok-check-start.was)
+loop-k-preserved c = checked_more (start_fault c.args.self.now) c.loop-k.k tt c.in_ok-check_start.field-0 c.loop-k.invariant (sym c.check_start.ensures ∙ c.in_ok-check_start.was)
 
-pub returns-in-err-check-start : goal.returns-in-err-check-start
-returns-in-err-check-start c =
-    let p = err_from_is_err_and c.from-residual.result c.from-residual.ensures.1 in
-    rw (p.1, p.2) (sym (checked_stops (start_fault c.args.self.now) c.loop-k.k c.args.self.now.counts.partitions tt c.in-err-check-start.field-0.0 c.loop-k-test.true c.loop-k.invariant (sym c.check-start.ensures ∙ c.in-err-check-start.was)))
+pub returns-in_err-check_start : goal.returns-in_err-check_start
+returns-in_err-check_start c =
+    let p = err_from_is_err_and c.from_residual.result c.from_residual.ensures.1 in
+    rw (p.1, p.2) (sym (checked_stops (start_fault c.args.self.now) c.loop-k.k c.args.self.now.counts.partitions tt c.in_err-check_start.field-0.0 c.loop-k-test.true c.loop-k.invariant (sym c.check_start.ensures ∙ c.in_err-check_start.was)))
 
 pub returns : goal.returns
 returns c = sym (checked_all (start_fault c.args.self.now) c.loop-k.k c.args.self.now.counts.partitions tt c.loop-k.invariant (omega arith))

@@ -7,6 +7,6 @@ pub returns : goal.returns
 returns c =
     let a = c.args.self.now.accepted in
     let s = system c.args.self.now.machine c.args.words.now in
-    let t = system c.run-slot.new.self c.run-slot.new.words in
-    let e = system_is c.run-slot.new.self c.run-slot.new.words (after_slot a s) c.run-slot.ensures.machine c.run-slot.ensures.words in
-    record { value = c.run-slot.ensures.value; accepted = refl; system = e; promises = slot_keeps a s t e; unseen = slot_unseen a s t e }
+    let t = system c.run_slot.new.self c.run_slot.new.words in
+    let e = system_is c.run_slot.new.self c.run_slot.new.words (after_slot a s) c.run_slot.ensures.machine c.run_slot.ensures.words in
+    record { value = c.run_slot.ensures.value; accepted = refl; system = e; promises = slot_keeps a s t e; unseen = slot_unseen a s t e }

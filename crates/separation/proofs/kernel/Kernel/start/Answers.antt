@@ -3,5 +3,5 @@ use Rattle.separation.proofs.kernel.Kernel.start.Goals as goal
 
 pub returns : goal.returns
 returns c =
-    let z = started c.args.bytes.now c.args.words.now c.in-ok-accepted.accepted c.load.result c.in-ok-accepted.ensures.value c.load.ensures in
+    let z = started c.args.bytes.now c.args.words.now c.in_ok-accepted.accepted c.load.result c.in_ok-accepted.ensures.value c.load.ensures in
     record { value = z.0; verdict = z.1 }
