@@ -11,7 +11,7 @@ import re
 
 TOKEN = re.compile(r"[A-Za-z_][A-Za-z0-9_'\-]*[A-Za-z0-9_']")
 KINDS = ("Answers.antt", "Choices.antt", "Invariants.antt", "Proof.antt")
-WORDS = {"in_err", "in_ok", "overflow_add", "overflow_sub", "overflow_mul", "overflow_cast", "overflow_step", "overflow_neg", "from_residual"}
+WORDS = {"in_err", "in_ok", "overflow_add", "overflow_sub", "overflow_mul", "overflow_cast", "overflow_step", "overflow_neg", "from_residual", "in_default"}
 
 
 def identifiers(crate):

@@ -5,14 +5,18 @@ use console::arguments::{argument, at_most, is_word};
 use console::files::read_up_to;
 use console::problem::{Problem, Program, VERSION};
 use std::env;
+use std::process::ExitCode;
 
 const PROGRAM: Program = Program {
     name: "judge",
     usage: "judge PLAN IMAGE",
 };
 
-fn main(rt: HostRuntime) -> Result<(), ()> {
-    PROGRAM.ended(&rt, judge(&rt))
+fn main(rt: HostRuntime) -> ExitCode {
+    match PROGRAM.ended(&rt, judge(&rt)) {
+        Ok(()) => ExitCode::SUCCESS,
+        Err(()) => ExitCode::FAILURE,
+    }
 }
 
 fn judge(rt: &HostRuntime) -> Result<(), Problem> {

@@ -12,6 +12,7 @@ use line::Line;
 use separation::kernel::Kernel;
 use separation::run::run as run_slots;
 use std::io::{BufWriter, Write};
+use std::process::ExitCode;
 use std::{env, io};
 use words::bytes::u32_at;
 
@@ -20,8 +21,11 @@ const PROGRAM: Program = Program {
     usage: "operate PLAN IMAGE SLOTS [--last], or operate PLAN IMAGE --slots N [--last]",
 };
 
-fn main(rt: HostRuntime) -> Result<(), ()> {
-    PROGRAM.ended(&rt, operate(&rt))
+fn main(rt: HostRuntime) -> ExitCode {
+    match PROGRAM.ended(&rt, operate(&rt)) {
+        Ok(()) => ExitCode::SUCCESS,
+        Err(()) => ExitCode::FAILURE,
+    }
 }
 
 fn operate(rt: &HostRuntime) -> Result<(), Problem> {

@@ -8,6 +8,7 @@ use plan::model::Plan;
 use plan::timetable::Turn;
 use std::io;
 use std::io::{BufWriter, Write};
+use std::process::ExitCode;
 use words::bytes::u32_at;
 
 const PROGRAM: Program = Program {
@@ -15,8 +16,11 @@ const PROGRAM: Program = Program {
     usage: "run PLAN IMAGE SLOTS, or run PLAN IMAGE --slots N",
 };
 
-fn main(rt: HostRuntime) -> Result<(), ()> {
-    PROGRAM.ended(&rt, run(&rt))
+fn main(rt: HostRuntime) -> ExitCode {
+    match PROGRAM.ended(&rt, run(&rt)) {
+        Ok(()) => ExitCode::SUCCESS,
+        Err(()) => ExitCode::FAILURE,
+    }
 }
 
 fn run(rt: &HostRuntime) -> Result<(), Problem> {

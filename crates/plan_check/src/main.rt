@@ -4,14 +4,18 @@
 use console::arguments::{argument, arguments, asks_help, at_most};
 use console::files::read_up_to;
 use console::problem::{Problem, Program};
+use std::process::ExitCode;
 
 const PROGRAM: Program = Program {
     name: "check",
     usage: "check PLAN IMAGE",
 };
 
-fn main(rt: HostRuntime) -> Result<(), ()> {
-    PROGRAM.ended(&rt, check(&rt))
+fn main(rt: HostRuntime) -> ExitCode {
+    match PROGRAM.ended(&rt, check(&rt)) {
+        Ok(()) => ExitCode::SUCCESS,
+        Err(()) => ExitCode::FAILURE,
+    }
 }
 
 fn check(rt: &HostRuntime) -> Result<(), Problem> {
