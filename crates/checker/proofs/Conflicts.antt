@@ -11,7 +11,7 @@ use Rattle.paging.proofs.Tell.{pointer_tells}
 use Rattle.plan.specs.declared.model.Plan.{Plan}
 use Rattle.checker.specs.Marks.{kernel_test, names, named_by, named_entry, names_in, pointed, points}
 use Rattle.checker.specs.Sharing.{apart_kept, clash, clash_at, kernel_at, lent_kept, missing_at, named_at}
-use Rattle.checker.specs.Lawful.{AllLent, Apart, Conflict, Formed, Lent, root}
+use Rattle.checker.specs.Lawful.{AllLent, Apart, Conflict, Formed, root}
 use Rattle.checker.proofs.Forms.{lent_tells}
 
 module _ (ws : List ℕ) (r : ℕ) where

@@ -1,7 +1,5 @@
 -- The verdict on a file is that on its front part.
-use Rattle.std.proofs.Common.{◌≡◌, ℕ, List, take, refl, ap, ◌∙◌}
-use Rattle.words.specs.First.{or_else, unless}
-use Rattle.plan.specs.Format.{plan_of}
+use Rattle.std.proofs.Common.{refl}
 use Rattle.plan.proofs.Front.{front_tells_all as plan_tells_all}
 use Rattle.checker.specs.Checked.{TellsAll, checked, first_refusal}
 

@@ -1,5 +1,5 @@
 -- The rule on the pages of channels: its answer at a channel tells whether the pages fit, or cannot be looked up.
-use Rattle.std.proofs.Common.{◌≡◌, ℕ, ◌<◌, Bool, true, false, cond, ◌||◌, eqb, ◌⊎◌, List, Some, None, Ok, Err, Option, Result, sym, refl, ap, ◌∙◌, subst, inl, inr, arith}
+use Rattle.std.proofs.Common.{◌≡◌, ℕ, Bool, true, false, cond, eqb, ◌⊎◌, List, Some, None, Ok, Err, Option, Result, sym, refl, ap, ◌∙◌, inl, inr, arith}
 use Rattle.std.proofs.lemmas.Bool.{eq-eqb, eqb-true, or_cases, or_left, or_right, true≢false}
 use Rattle.words.specs.First.{any}
 use Rattle.words.proofs.First.{all_not, any_here}
@@ -9,7 +9,7 @@ use Rattle.checker.specs.declared.fault.Fault.{Fault}
 use Rattle.checker.specs.declared.fault.Fault.TheVariants.{Broken, NotLent}
 use Rattle.checker.specs.declared.pages.Ends.{Ends}
 use Rattle.checker.specs.Pages.{behind, both_ends, end_frame, ends_or_none, meets, page_fault, taken_fault, touch, touches}
-use Rattle.checker.specs.Lawful.{Joins, PagesFit, PagesUnread, Touch, Usable}
+use Rattle.checker.specs.Lawful.{Joins, PagesFit, PagesUnread, Touch}
 use Rattle.checker.proofs.Ended.{end_unread, end_usable, unread_end, usable_end}
 
 both_ok : (r s : Result ℕ Fault) (a : Ends) → both_ends r s ≡ Ok a → (r ≡ Ok a.sender) × (s ≡ Ok a.receiver)

@@ -1,19 +1,16 @@
 -- The checker's answer is the verdict that the rules ask for.
-use Rattle.std.proofs.Common.{◌≡◌, ℕ, ◌<◌, ◌≤◌, Bool, true, false, ◌⊎◌, List, get_or, Some, None, Ok, Option, sym, refl, ap, ◌∙◌, subst, inl, inr, arith}
+use Rattle.std.proofs.Common.{◌≡◌, ℕ, ◌<◌, ◌≤◌, Bool, true, false, ◌⊎◌, List, get_or, Some, None, Ok, Option, sym, refl, ◌∙◌, subst, inl, inr, arith}
 use Rattle.std.proofs.lemmas.Bool.{cases_eq, cases_lt, cond-true, lt-ltb}
 use Rattle.std.proofs.lemmas.Result.{MatchResult-at_ok}
-use Rattle.words.specs.First.{first, or_else}
 use Rattle.paging.specs.declared.leaf.Leaf.{Leaf}
 use Rattle.paging.specs.Mapping.{Maps}
-use Rattle.paging.specs.Tables.{KernelFrame, Names}
+use Rattle.paging.specs.Tables.{Names}
 use Rattle.paging.proofs.Agree.{leaves_named}
 use Rattle.plan.specs.declared.model.Endpoint.{Endpoint}
-use Rattle.plan.specs.declared.model.Plan.{Plan}
 use Rattle.plan.specs.declared.refusal.Count.TheVariants.{Channels}
 use Rattle.plan.specs.declared.refusal.Refusal.{Refusal}
 use Rattle.plan.specs.declared.refusal.Refusal.TheVariants.{Truncated, CountRange, SlotRule, ChannelRule, ChannelPage, RootRule, TableMalformed, FrameShared, StartMisaligned, BudgetRule, FramesMissing, Surplus}
-use Rattle.plan.specs.Format.{plan_of, rows}
-use Rattle.plan.specs.Lawful.{Broken}
+use Rattle.plan.specs.Format.{plan_of}
 use Rattle.plan.specs.Rules.{channel}
 use Rattle.plan.proofs.Chain.{After, chain, last}
 use Rattle.plan.proofs.Kept.{decided, kept_lawful, lawful_kept}
@@ -22,13 +19,12 @@ use Rattle.plan.proofs.Stages.{truncated_stage, counts_stage, slots_stage, chann
 use Rattle.checker.specs.declared.Accepted.{Accepted}
 use Rattle.checker.specs.declared.fault.Fault.{Fault}
 use Rattle.checker.specs.declared.fault.Fault.TheVariants.{Broken as RuleBroken, NotLent}
-use Rattle.checker.specs.declared.pages.Ends.{Ends}
 use Rattle.checker.specs.Checked.{accepted, checked, first_refusal}
 use Rattle.checker.specs.Pages.{ends_or_none, no_ends, page_fault}
 use Rattle.checker.specs.Roots.{root_kept}
 use Rattle.checker.specs.Sharing.{apart_kept, lent_kept}
 use Rattle.checker.specs.Tables.{root_fault}
-use Rattle.checker.specs.Lawful.{AllLent, Apart, Conflict, Formed, Joins, Leads, PagesFit, Usable, root}
+use Rattle.checker.specs.Lawful.{Apart, Formed, Leads, PagesFit, Usable, root}
 use Rattle.checker.specs.Found.{AcceptedSeparate, AcceptedUnshared, Behind, ChannelJoins, Finding, FirstFound, Found, Judges, Lawful, Separate, Sound, place_in, refusal_of, rule_of}
 use Rattle.checker.specs.Found.Finding.{broken, pages_unread, tables_unread}
 use Rattle.checker.proofs.Forms as forms

@@ -1,7 +1,6 @@
 -- Marks that a loop adds to: what was marked, or is by one of the places so far.
-use Rattle.std.proofs.Common.{◌≡◌, ℕ, ◌+◌, ◌<◌, Bool, true, false, ◌||◌, eqb, List, length, get_or, set, replicate, sym, refl, ap, ◌∙◌, inl, inr}
-use Rattle.std.proofs.lemmas.List.{get_or-replicate, get_or-set_same, get_or-set_other}
-use Rattle.std.proofs.lemmas.Bool.{cases_eq, or_right, ne_eqb, eq-eqb}
+use Rattle.std.proofs.Common.{◌≡◌, ℕ, ◌+◌, ◌<◌, Bool, true, false, ◌||◌, get_or, replicate, sym, refl, ap, ◌∙◌}
+use Rattle.std.proofs.lemmas.List.{get_or-replicate}
 use Rattle.words.specs.First.{any}
 use Rattle.words.proofs.First.{any_none, any_step}
 

@@ -1,5 +1,5 @@
 -- Each rule is a stage of the chain of all rules.
-use Rattle.std.proofs.Common.{◌≡◌, ℕ, ◌<◌, ◌≤◌, Bool, true, false, ◌⊎◌, List, length, Some, None, Decides, Option, sym, refl, ap, ◌∙◌, subst, inl, inr, arith}
+use Rattle.std.proofs.Common.{◌≡◌, ℕ, ◌<◌, ◌≤◌, ◌⊎◌, List, Some, None, Decides, Option, sym, refl, ap, ◌∙◌, subst, inl, inr, arith}
 use Rattle.std.proofs.lemmas.Bool.{and_from, and_parts, both_ways, eq-eqb, eqb-true, leb-true, le-leb, lt-ltb, ltb-true, not-true, true≢false}
 use Rattle.words.specs.First.{any, first}
 use Rattle.words.proofs.First.{all_not, any_here, none_below}
@@ -13,12 +13,12 @@ use Rattle.plan.proofs.Chain.{Stage, each, places, single}
 use Rattle.plan.proofs.Stages.{PlanStage, at_number}
 use Rattle.checker.specs.declared.fault.Fault.{Fault}
 use Rattle.checker.specs.declared.fault.Fault.TheVariants.{Broken as RuleBroken, NotLent}
-use Rattle.checker.specs.Faults.{refused_by, refused_with}
+use Rattle.checker.specs.Faults.{refused_by}
 use Rattle.checker.specs.Pages.{page_fault, page_refusal}
 use Rattle.checker.specs.Roots.{root_kept, root_refusal, same_root}
 use Rattle.checker.specs.Sharing.{apart_kept, lent_kept, lent_refusal, share_refusal}
 use Rattle.checker.specs.Tables.{root_fault, table_refusal}
-use Rattle.checker.specs.Lawful.{AllLent, Apart, Formed, PagesFit, PagesUnread, RootFits, TablesUnread, root}
+use Rattle.checker.specs.Lawful.{Apart, Formed, PagesFit, PagesUnread, RootFits, TablesUnread, root}
 use Rattle.checker.specs.Found.{Finding, Found, place_in, refusal_of, rule_of}
 use Rattle.checker.specs.Found.Finding.{broken, pages_unread, tables_unread}
 use Rattle.checker.proofs.Forms.{formed_none, none_formed}

@@ -1,9 +1,9 @@
 -- The rules on frames, each a sentence of its own. No order of steps, no loop and no mark stands in them.
-use Rattle.std.specs.Prelude.{◌≡◌, ℕ, ◌+◌, ◌*◌, ◌/◌, ◌<◌, ◌≤◌, Bool, true, false, ◌≢◌, ◌⊎◌, List, length, get_or}
+use Rattle.std.specs.Prelude.{◌≡◌, ℕ, ◌+◌, ◌*◌, ◌/◌, ◌<◌, ◌≤◌, Bool, true, false, ◌≢◌, ◌⊎◌, List, length}
 use Rattle.words.specs.Frames.{word}
 use Rattle.paging.specs.declared.leaf.Leaf.{Leaf}
 use Rattle.paging.specs.Entries.{frame_of, is_leaf, is_valid}
-use Rattle.paging.specs.Mapping.{InMemory, LeafEntry, Maps, Pointer}
+use Rattle.paging.specs.Mapping.{InMemory, LeafEntry, Pointer}
 use Rattle.paging.specs.Tables.{KernelFrame, Names}
 use Rattle.plan.specs.declared.model.Endpoint.{Endpoint}
 use Rattle.plan.specs.declared.model.Plan.{Plan}

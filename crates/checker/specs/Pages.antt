@@ -10,7 +10,7 @@ use Rattle.plan.specs.declared.refusal.Refusal.{Refusal}
 use Rattle.plan.specs.declared.refusal.Refusal.TheVariants.{ChannelPage}
 use Rattle.plan.specs.Rules.{channel, partition}
 use Rattle.checker.specs.declared.fault.Fault.{Fault}
-use Rattle.checker.specs.declared.fault.Fault.TheVariants.{Broken, NotLent}
+use Rattle.checker.specs.declared.fault.Fault.TheVariants.{Broken}
 use Rattle.checker.specs.declared.pages.Ends.{Ends}
 use Rattle.checker.specs.Faults.{frame_fault, refused_by}
 

@@ -1,5 +1,5 @@
 -- The words of a command line.
-use Rattle.std.specs.Prelude.{◌≡◌, ℕ, Bool, false, List, [], ◌∷◌, string_bytes, codes, Decides, String}
+use Rattle.std.specs.Prelude.{◌≡◌, Bool, false, List, [], ◌∷◌, string_bytes, codes, Decides, String}
 use Rattle.std.specs.declared.alloc.Global.{Global}
 
 -- whether the first word is --help

@@ -1,5 +1,5 @@
 -- The core does what the architecture does.
-use Rattle.std.proofs.Common.{◌≡◌, ℕ, ◌/◌, ◌%◌, Bool, true, false, cond, List, Some, None, Ok, Err, Option, Result, sym, refl, ap, ◌∙◌, inl, inr}
+use Rattle.std.proofs.Common.{◌≡◌, ℕ, ◌/◌, ◌%◌, true, false, List, Some, None, Ok, Err, Option, sym, refl, ◌∙◌, inl, inr}
 use Rattle.std.proofs.lemmas.Bool.{cases_Bool, cond-true, cond-false}
 use Rattle.isa.specs.declared.register.Register.{Register}
 use Rattle.isa.specs.declared.instruction.Instruction.{Instruction}
@@ -8,13 +8,10 @@ use Rattle.isa.specs.declared.instruction.StoreWidth.{StoreWidth}
 use Rattle.isa.specs.Decoding.{decoded}
 use Rattle.paging.specs.declared.access.Access.{Access}
 use Rattle.paging.specs.declared.access.Access.TheVariants.{Fetch, Load, Store}
-use Rattle.paging.specs.declared.translate.PageFault.{PageFault}
-use Rattle.paging.specs.declared.translate.Place.{Place}
 use Rattle.paging.specs.Accesses.{page_fault}
-use Rattle.paging.specs.Walks.{translated, walked}
+use Rattle.paging.specs.Walks.{translated}
 use Rattle.tables.specs.declared.Tables.{Tables}
-use Rattle.tables.specs.declared.tlb.Lookup.{Lookup}
-use Rattle.tables.specs.Honest.{Honest, Truthful, reached}
+use Rattle.tables.specs.Honest.{Honest, reached}
 use Rattle.tables.proofs.Truth.{honesty}
 use Rattle.words.specs.Frames.{word}
 use Rattle.hart.specs.declared.context.State.{State}
@@ -23,8 +20,8 @@ use Rattle.hart.specs.declared.context.Context.{Context}
 use Rattle.hart.specs.Memory.{is_aligned, load_bytes, store_bytes}
 use Rattle.hart.specs.Execution.{Doing, sets, jumps, branches, loads, stores, doing}
 use Rattle.hart.specs.Core.{Ran, executed, fetch_ran, word_ran, decoded_ran, load_ran, store_ran, stepped, stepped_by, looked_up, after_lookup, place_in}
-use Rattle.hart.specs.Architecture.{Left, architecture, program_does, does, fetch_does, instruction_does, load_does, store_does}
-use Rattle.hart.specs.Laws.{Agrees, Agreement}
+use Rattle.hart.specs.Architecture.{Left, architecture, program_does, does, fetch_does, instruction_does}
+use Rattle.hart.specs.Laws.{Agreement}
 
 -- what a step leaves of program and memory
 record Same (r : Ran) (l : Left) : Type 0 where

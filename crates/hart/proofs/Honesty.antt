@@ -1,7 +1,7 @@
 -- A TLB that answers as a walk would keeps doing so.
-use Rattle.std.proofs.Common.{◌≡◌, ℕ, ◌/◌, ◌%◌, ◌<◌, Bool, true, false, List, Some, None, Option, sym, refl, ap, ◌∙◌, subst, inl, inr, arith}
+use Rattle.std.proofs.Common.{◌≡◌, ℕ, ◌/◌, ◌%◌, ◌<◌, true, List, Some, None, Option, sym, refl, subst, inl, inr, arith}
 use Rattle.std.proofs.lemmas.Bool.{cases_Bool}
-use Rattle.words.specs.Frames.{word, written}
+use Rattle.words.specs.Frames.{word}
 use Rattle.isa.specs.declared.register.Register.{Register}
 use Rattle.isa.specs.declared.instruction.Instruction.{Instruction}
 use Rattle.isa.specs.declared.instruction.LoadWidth.{LoadWidth}
@@ -9,9 +9,8 @@ use Rattle.isa.specs.declared.instruction.StoreWidth.{StoreWidth}
 use Rattle.isa.specs.Decoding.{decoded}
 use Rattle.paging.specs.declared.access.Access.{Access}
 use Rattle.paging.specs.declared.access.Access.TheVariants.{Fetch, Load, Store}
-use Rattle.paging.specs.Mapping.{Reaches}
 use Rattle.paging.specs.Tables.{Names}
-use Rattle.paging.specs.Walks.{translated, walked}
+use Rattle.paging.specs.Walks.{translated}
 use Rattle.paging.proofs.Agree.{leaves_named, writes_apart}
 use Rattle.paging.proofs.Reached.{translates}
 use Rattle.tables.specs.declared.Tables.{Tables}

@@ -1,5 +1,5 @@
 -- What a program does depends on no other memory than that of its root.
-use Rattle.std.proofs.Common.{◌≡◌, ℕ, ◌+◌, ◌*◌, ◌/◌, ◌%◌, ◌<◌, ◌≤◌, Bool, true, false, ◌⊎◌, List, length, Some, None, Option, sym, refl, ap, ◌∙◌, subst, inl, inr, arith}
+use Rattle.std.proofs.Common.{◌≡◌, ℕ, ◌+◌, ◌*◌, ◌/◌, ◌%◌, ◌<◌, ◌≤◌, true, ◌⊎◌, List, length, Some, None, Option, sym, refl, ap, ◌∙◌, subst, inl, inr, arith}
 use Rattle.std.proofs.lemmas.List.{get_or-set_other, get_or-set_same}
 use Rattle.std.proofs.lemmas.Bool.{cases_Bool, cases_eq, lt-ltb}
 use Rattle.words.specs.Frames.{lent, word, written}
@@ -21,10 +21,10 @@ use Rattle.tables.proofs.Truth.{honesty}
 use Rattle.hart.specs.declared.context.State.{State}
 use Rattle.hart.specs.declared.context.State.TheVariants.{Ready, Stopped}
 use Rattle.hart.specs.declared.context.Context.{Context}
-use Rattle.hart.specs.Memory.{is_aligned, load_bytes, store_bytes, stored}
+use Rattle.hart.specs.Memory.{is_aligned, load_bytes, store_bytes}
 use Rattle.hart.specs.Execution.{Doing, sets, jumps, branches, loads, stores, doing}
 use Rattle.hart.specs.Core.{Ran, executed, fetch_ran, word_ran, decoded_ran, load_ran, store_ran, stepped, stepped_by, looked_up, after_lookup, place_in}
-use Rattle.hart.specs.Laws.{SameOwn, SameStep, SeesOwn}
+use Rattle.hart.specs.Laws.{SameOwn, SeesOwn}
 use Rattle.hart.proofs.Agreeing.{granted}
 
 -- a frame that an access reaches: the tables name it, and it is lent

@@ -1,5 +1,5 @@
 -- A word with some of its bits replaced.
-use Rattle.std.proofs.Common.{◌≡◌, ℕ, ◌+◌, ◌-◌, ◌*◌, ◌/◌, ◌%◌, ◌^◌, ◌<◌, ◌≤◌, sym, refl, ap, ◌∙◌, subst, add-mul, arith}
+use Rattle.std.proofs.Common.{◌≡◌, ℕ, ◌+◌, ◌-◌, ◌*◌, ◌/◌, ◌%◌, ◌^◌, ◌<◌, ◌≤◌, sym, ap, ◌∙◌, subst, add-mul, arith}
 use Rattle.std.proofs.lemmas.Nat.{pow-add, pow_pos, shr_split, shr_below, mul-add-lt, mod_below}
 use Rattle.words.specs.Bits.{field}
 

@@ -1,7 +1,7 @@
 -- Page tables that a step leaves as they are.
-use Rattle.std.proofs.Common.{◌≡◌, ℕ, ◌/◌, ltb, ◌⊎◌, List, length, sym, ap, ◌∙◌, inl, inr}
+use Rattle.std.proofs.Common.{◌≡◌, ℕ, ◌/◌, ltb, ◌⊎◌, List, sym, ap, ◌∙◌, inl, inr}
 use Rattle.words.specs.Frames.{lent}
-use Rattle.paging.specs.Tables.{Alike, KernelFrame, Names, SameTables}
+use Rattle.paging.specs.Tables.{KernelFrame, Names, SameTables}
 use Rattle.paging.proofs.Agree.{tables_decide}
 use Rattle.tables.specs.declared.Tables.{Tables}
 use Rattle.tables.specs.Honest.{Honest}

@@ -1,9 +1,8 @@
 -- What a step keeps, with any tables.
-use Rattle.std.proofs.Common.{◌≡◌, ℕ, ◌+◌, ◌/◌, ◌%◌, ◌≤◌, Bool, true, false, eqb, ◌⊎◌, List, length, ℤ, Some, None, Option, sym, refl, ap, ◌∙◌, inl, inr, arith}
+use Rattle.std.proofs.Common.{◌≡◌, ℕ, ◌+◌, ◌/◌, ◌%◌, ◌≤◌, Bool, true, false, eqb, ◌⊎◌, List, length, ℤ, Some, None, Option, refl, ◌∙◌, inl, inr, arith}
 use Rattle.std.proofs.lemmas.List.{length-set, length-replicate}
 use Rattle.std.proofs.lemmas.Bool.{cases_Bool}
 use Rattle.words.specs.Costs.{highest, highest_branch, instruction, misprediction, miss, page_walk, write_back}
-use Rattle.words.specs.Frames.{word}
 use Rattle.isa.specs.declared.register.Register.{Register}
 use Rattle.isa.specs.declared.instruction.Condition.{Condition}
 use Rattle.isa.specs.declared.instruction.Instruction.{Instruction}
@@ -20,7 +19,7 @@ use Rattle.tables.specs.declared.tlb.Tlb.{Tlb}
 use Rattle.tables.specs.declared.tlb.TlbEntry.{TlbEntry}
 use Rattle.tables.specs.Cache.{access_cost, line_of}
 use Rattle.tables.specs.Predictor.{branch_cost, is_right}
-use Rattle.tables.specs.Tlb.{entry_of, filled, filled_by, found, granted, known, put}
+use Rattle.tables.specs.Tlb.{entry_of, filled, filled_by, granted, known, put}
 use Rattle.tables.proofs.Lines.{access_costs, whole_accessed, whole_empty}
 use Rattle.tables.proofs.Truth.{carried_cost}
 use Rattle.tables.proofs.Turns.{counters_stay}
@@ -31,7 +30,7 @@ use Rattle.hart.specs.declared.context.Context.{Context}
 use Rattle.hart.specs.Memory.{is_aligned, load_bytes, store_bytes}
 use Rattle.hart.specs.Execution.{Doing, sets, jumps, branches, loads, stores, doing, misses_target, stopped}
 use Rattle.hart.specs.Core.{Ran, executed, fetch_ran, word_ran, decoded_ran, load_ran, store_ran, ran, stepped, stepped_by, looked_up, after_lookup, place_in}
-use Rattle.hart.specs.Steps.{StayWhole, Step, Steps, Stops, WholeTables, fetched}
+use Rattle.hart.specs.Steps.{StayWhole, Steps, Stops, WholeTables, fetched}
 
 -- the TLB keeps its entries
 put_length : (tlb : Tlb) (page : ℕ) (o : Option Leaf) → length (put tlb page o).entries ≡ length tlb.entries

@@ -1,5 +1,5 @@
 -- A step writes at most one word, and that in a frame of its own root.
-use Rattle.std.proofs.Common.{◌≡◌, ℕ, ◌+◌, ◌*◌, ◌/◌, ◌%◌, ◌<◌, Bool, true, false, ◌⊎◌, List, Some, None, Ok, Err, Option, Result, sym, refl, ap, ◌∙◌, subst, inl, inr, arith}
+use Rattle.std.proofs.Common.{◌≡◌, ℕ, ◌+◌, ◌*◌, ◌/◌, ◌<◌, ◌⊎◌, List, Some, None, Ok, Err, Option, Result, sym, refl, ap, ◌∙◌, subst, inl, inr, arith}
 use Rattle.std.proofs.lemmas.List.{get_or-set_other}
 use Rattle.std.proofs.lemmas.Bool.{cases_Bool}
 use Rattle.words.specs.Frames.{word, written}
@@ -15,8 +15,6 @@ use Rattle.paging.specs.Tables.{Names}
 use Rattle.paging.specs.Walks.{translated}
 use Rattle.paging.proofs.Agree.{leaves_named}
 use Rattle.paging.proofs.Reached.{translates}
-use Rattle.tables.specs.declared.Tables.{Tables}
-use Rattle.tables.specs.Honest.{Honest}
 use Rattle.hart.specs.declared.context.State.{State}
 use Rattle.hart.specs.declared.context.State.TheVariants.{Ready, Stopped}
 use Rattle.hart.specs.declared.context.Context.{Context}
@@ -24,7 +22,7 @@ use Rattle.hart.specs.Memory.{is_aligned, load_bytes, store_bytes, stored}
 use Rattle.hart.specs.Execution.{Doing, sets, jumps, branches, loads, stores, doing}
 use Rattle.hart.specs.Core.{stepped}
 use Rattle.hart.specs.Architecture.{architecture, does, fetch_does, instruction_does, load_does, program_does, store_does, word_at}
-use Rattle.hart.specs.Laws.{StoredOwn, Writes, WritesOwn}
+use Rattle.hart.specs.Laws.{StoredOwn, WritesOwn}
 use Rattle.hart.proofs.Agreeing.{agreement}
 
 -- a write to a frame that the tables name changes no word elsewhere

@@ -1,7 +1,6 @@
 -- What an instruction does, by its name: to a register, to the counter, to memory. Memory and tables do not enter here.
 use Rattle.std.specs.Prelude.{ℕ, ◌+◌, ◌-◌, ◌/◌, ◌%◌, ◌^◌, Bool, cond, not, ◌&&◌, ℤ, pos, ◌+ℤ◌, ◌==◌}
 use Rattle.isa.specs.declared.register.Register.{Register}
-use Rattle.isa.specs.declared.register.Registers.{Registers}
 use Rattle.isa.specs.declared.instruction.LoadWidth.{LoadWidth}
 use Rattle.isa.specs.declared.instruction.StoreWidth.{StoreWidth}
 use Rattle.isa.specs.declared.instruction.Counter.{Counter}
@@ -12,8 +11,7 @@ use Rattle.isa.specs.Meaning.{computed, holds, remainder}
 use Rattle.isa.specs.Registers.{held, written}
 use Rattle.hart.specs.declared.cause.Cause.{Cause}
 use Rattle.hart.specs.declared.cause.Cause.TheVariants.{FetchMisaligned}
-use Rattle.hart.specs.declared.context.State.{State}
-use Rattle.hart.specs.declared.context.State.TheVariants.{Ready, Stopped}
+use Rattle.hart.specs.declared.context.State.TheVariants.{Stopped}
 use Rattle.hart.specs.declared.context.Context.{Context}
 
 -- an address and an offset, which wrap at 2 ^ 32

@@ -1,12 +1,12 @@
 -- The verdict on an image, and its words, are those of its front part.
-use Rattle.std.proofs.Common.{◌≡◌, ℕ, ◌+◌, ◌-◌, ◌*◌, ◌/◌, ◌<◌, ◌≤◌, min, List, map, length, take, sym, refl, ap, ◌∙◌, inl, inr, arith}
+use Rattle.std.proofs.Common.{◌≡◌, ℕ, ◌+◌, ◌*◌, ◌<◌, ◌≤◌, List, map, length, take, refl, ap, ◌∙◌, inl, inr, arith}
 use Rattle.std.specs.List.{range_with_len}
 use Rattle.std.proofs.lemmas.List.FromFn.{fill_by_all, get_or-map-range_with_len, length-map-range_with_len}
 use Rattle.std.proofs.lemmas.List.{length-take-le, take_all}
 use Rattle.std.proofs.lemmas.Bool.{cases_lt, lt-ltb, le-ltb}
-use Rattle.words.specs.Bytes.{byte, number}
+use Rattle.words.specs.Bytes.{byte}
 use Rattle.words.proofs.Numbers.{number_take}
-use Rattle.image.specs.Frames.{FrontTells, TellsAll, counted, image_fault, image_size, image_word, image_words, lent_frames, longest}
+use Rattle.image.specs.Frames.{TellsAll, counted, image_fault, image_size, image_word, image_words, lent_frames, longest}
 
 counting_same : (f g : ℕ → ℕ) (m : ℕ) → ((k : ℕ) → k < m → f k ≡ g k) → map f (range_with_len 0 m) ≡ map g (range_with_len 0 m)
 counting_same f g m h = fill_by_all g (map f (range_with_len 0 m)) m 0 (length-map-range_with_len f 0 m) (λ k l. get_or-map-range_with_len f 0 m k k 0 l (omega arith) ∙ h k l)

@@ -1,12 +1,11 @@
 -- The answer on a plan with its image is the verdict that the rules ask for.
-use Rattle.std.proofs.Common.{◌≡◌, ℕ, ◌<◌, ◌⊎◌, List, length, Some, None, Ok, Err, Result, sym, refl, ◌∙◌, inl, inr, arith, MatchResult}
+use Rattle.std.proofs.Common.{◌≡◌, ℕ, ◌⊎◌, List, length, Some, None, Ok, Err, Result, refl, inl, inr, arith}
 use Rattle.std.proofs.lemmas.Bool.{cases_lt, lt-ltb, le-ltb}
 use Rattle.plan.specs.declared.model.Plan.{Plan}
 use Rattle.plan.specs.declared.refusal.Refusal.{Refusal}
 use Rattle.plan.specs.declared.refusal.Refusal.TheVariants.{FramesMissing, Surplus}
-use Rattle.plan.specs.Format.{plan_of}
 use Rattle.plan.specs.Rules.{parsed}
-use Rattle.plan.specs.Lawful.{Judges, Lawful, FirstBroken}
+use Rattle.plan.specs.Lawful.{Judges}
 use Rattle.plan.proofs.Judged.{judged}
 use Rattle.image.specs.Frames.{Admits, ImageBroken, Whole, admitted, counted, followed_by, image_fault, image_size}
 

@@ -1,6 +1,6 @@
 -- Rules that are asked one after the other, in the order of their numbers, answer with the first finding.
 -- A finding has a rule and a place, and says with which refusal the plan is refused.
-use Rattle.std.proofs.Common.{◌≡◌, ℕ, ◌<◌, ◌≤◌, Bool, true, false, ◌⊎◌, Some, None, Decides, Option, sym, refl, ◌∙◌, subst, inl, inr, arith}
+use Rattle.std.proofs.Common.{◌≡◌, ℕ, ◌<◌, ◌≤◌, Bool, true, false, Some, None, Decides, Option, sym, refl, ◌∙◌, subst, inl, inr, arith}
 use Rattle.std.proofs.lemmas.Bool.{cases_eq, cases_lt, both_ways}
 use Rattle.words.specs.First.{first, or_else}
 use Rattle.words.proofs.First.{or_none, or_some, first_is, none_below}

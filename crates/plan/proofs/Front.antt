@@ -1,5 +1,5 @@
 -- The verdict on a file is that on its front part.
-use Rattle.std.proofs.Common.{◌≡◌, ℕ, ◌+◌, ◌*◌, ◌<◌, ◌≤◌, true, false, leb, List, length, take, sym, refl, ap, ◌∙◌, inl, inr, arith}
+use Rattle.std.proofs.Common.{◌≡◌, ℕ, ◌+◌, ◌*◌, ◌<◌, ◌≤◌, List, length, take, refl, ap, ◌∙◌, inl, inr, arith}
 use Rattle.std.proofs.lemmas.List.{get_or-take, length-take-le, take_all}
 use Rattle.std.proofs.lemmas.Bool.{cases_lt, le-leb, lt-leb}
 use Rattle.words.specs.Bytes.{byte, number}
@@ -10,7 +10,7 @@ use Rattle.plan.specs.declared.model.Slot.{Slot}
 use Rattle.plan.specs.declared.model.Channel.{Channel}
 use Rattle.plan.specs.declared.model.Plan.{Plan}
 use Rattle.plan.specs.Format.{counts_of, plan_of, plan_size, partition_row, slot_row, channel_row, partitions_in, slots_in, channels_in, no_partition, no_slot, no_channel, partitions_from, slots_from, channels_from}
-use Rattle.plan.specs.Rules.{fault, parsed, truncated, surplus, longest, FrontTells, FrontTellsAll, TellsAll}
+use Rattle.plan.specs.Rules.{fault, parsed, truncated, surplus, longest, FrontTellsAll, TellsAll}
 use Rattle.plan.proofs.Rows.{rows_same}
 
 abbrev plan_with : List ℕ → Counts → Plan

@@ -1,13 +1,12 @@
 -- The parser's answer is the verdict that the rules ask for.
-use Rattle.std.proofs.Common.{◌≡◌, ℕ, suc, ◌<◌, ◌≤◌, Bool, true, false, ◌⊎◌, List, length, Some, None, Decides, Option, sym, refl, ◌∙◌, subst, inl, inr, arith}
-use Rattle.std.proofs.lemmas.Bool.{cases_Bool, cases_lt, both_ways}
+use Rattle.std.proofs.Common.{◌≡◌, ℕ, ◌<◌, ◌≤◌, List, Some, None, Option, refl, subst, arith}
 use Rattle.plan.specs.declared.refusal.Refusal.{Refusal}
 use Rattle.plan.specs.declared.refusal.Refusal.TheVariants.{Truncated, CountRange, SlotRule, ChannelRule, ChannelPage, RootRule, TableMalformed, FrameShared, StartMisaligned, BudgetRule, FramesMissing, Surplus}
-use Rattle.plan.specs.Format.{plan_of, plan_size}
+use Rattle.plan.specs.Format.{plan_of}
 use Rattle.words.specs.First.{or_else}
 use Rattle.plan.specs.Refused.{number_of, place_of}
-use Rattle.plan.specs.Rules.{fault, parsed, count_kept, slot_kept, channel_kept, start_kept, budget_kept}
-use Rattle.plan.specs.Lawful.{Before, Lawful, Broken, FirstBroken, Judges}
+use Rattle.plan.specs.Rules.{fault, parsed}
+use Rattle.plan.specs.Lawful.{Before, Broken, Judges}
 use Rattle.plan.proofs.Chain.{After, chain, last}
 use Rattle.plan.proofs.Kept.{kept_lawful, lawful_kept}
 use Rattle.plan.proofs.Stages.{PlanStage, itself, truncated_stage, counts_stage, slots_stage, channels_stage, starts_stage, budget_stage, surplus_stage}

@@ -1,5 +1,5 @@
 -- No rule of the plan is broken if and only if all are kept.
-use Rattle.std.proofs.Common.{◌≡◌, ℕ, ◌<◌, Bool, List, length, None, Decides, refl, inl, inr, arith}
+use Rattle.std.proofs.Common.{◌≡◌, ℕ, Bool, List, length, None, Decides, refl, inl, inr, arith}
 use Rattle.std.proofs.lemmas.Bool.{cases_Bool, cases_lt, both_ways}
 use Rattle.words.specs.First.{first}
 use Rattle.plan.specs.declared.refusal.Refusal.{Refusal}

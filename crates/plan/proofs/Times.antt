@@ -1,16 +1,15 @@
 -- Laws of the timetable.
-use Rattle.std.proofs.Common.{◌≡◌, ℕ, zero, suc, ◌+◌, ◌*◌, ◌%◌, ◌^◌, ◌<◌, ◌≤◌, true, ◌&&◌, ltb, List, Some, Ok, sym, refl, ap, ◌∙◌, add-zero, add-suc, add-one, arith}
+use Rattle.std.proofs.Common.{◌≡◌, ℕ, zero, suc, ◌+◌, ◌*◌, ◌%◌, ◌^◌, ◌<◌, ◌≤◌, ltb, List, Some, Ok, refl, ap, ◌∙◌, add-zero, add-suc, add-one, arith}
 use native.Mathlib.Nat.{add-mod_left}
 use Rattle.std.proofs.lemmas.Nat.{mod_below}
 use Rattle.std.proofs.lemmas.Result.{MatchResult-at_ok}
 use Rattle.std.proofs.lemmas.Bool.{and_from, lt-ltb}
 use Rattle.plan.specs.declared.model.Plan.{Plan}
-use Rattle.plan.specs.declared.timetable.Turn.{Turn}
 use Rattle.plan.specs.declared.refusal.Count.TheVariants.{Slots}
 use Rattle.plan.specs.Format.{plan_of}
 use Rattle.plan.specs.Rules.{parsed, slot}
 use Rattle.plan.specs.Lawful.{Lawful, FirstBroken}
-use Rattle.plan.specs.Timetable.{slot_of, begins, next_turn, then_next, turn_after, OnTime, Rounds, Bounded, LawfulBounded}
+use Rattle.plan.specs.Timetable.{slot_of, begins, then_next, turn_after, OnTime, Rounds, Bounded, LawfulBounded}
 use Rattle.plan.proofs.Judged.{judged}
 
 -- what an accepted plan says of time

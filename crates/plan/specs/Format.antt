@@ -6,7 +6,6 @@ use Rattle.words.specs.Bytes.{byte, number}
 use Rattle.plan.specs.declared.model.Counts.{Counts}
 use Rattle.plan.specs.declared.model.Partition.{Partition}
 use Rattle.plan.specs.declared.model.Slot.{Slot}
-use Rattle.plan.specs.declared.model.Endpoint.{Endpoint}
 use Rattle.plan.specs.declared.model.Channel.{Channel}
 use Rattle.plan.specs.declared.model.Plan.{Plan}
 

@@ -1,11 +1,11 @@
 -- Laws of frames.
-use Rattle.std.proofs.Common.{◌≡◌, ℕ, ◌+◌, ◌-◌, ◌*◌, ◌/◌, ◌<◌, ◌≤◌, Bool, true, false, cond, ◌&&◌, ◌≢◌, ◌⊎◌, List, ◌++◌, length, get_or, take, drop, sym, refl, ◌∙◌, inl, inr, arith}
+use Rattle.std.proofs.Common.{◌≡◌, ℕ, ◌+◌, ◌-◌, ◌*◌, ◌/◌, ◌<◌, ◌≤◌, true, ◌&&◌, ◌≢◌, ◌⊎◌, List, ◌++◌, length, get_or, take, drop, ◌∙◌, inl, inr, arith}
 use lib.Seq.{paste}
 use Rattle.std.proofs.lemmas.List.{get_or-set_same, get_or-set_other, length-set, length-append, length-take, length-take-le, get_or-take, get_or-drop, get_or_append_left, get_or-append_right}
 use Rattle.std.proofs.lemmas.List.Edits.{length-between, get_or-between, length-paste}
 use Rattle.std.proofs.lemmas.Bool.{cases_Bool, cases_lt, ltb-true, and_parts, and_from, both_ways}
 use Rattle.words.specs.Frames.{contents, copied, lent}
-use Rattle.words.specs.Laws.{Writes, ReadsBack, Copied, Copies}
+use Rattle.words.specs.Laws.{ReadsBack, Copies}
 
 -- the words of a lent frame lie among the lent words
 pub lent_room : (ws : List ℕ) (frame : ℕ) → lent ws frame ≡ true → frame * 1024 + 1024 ≤ length ws

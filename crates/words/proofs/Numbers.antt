@@ -1,8 +1,7 @@
 -- Laws of numbers in bytes.
-use Rattle.std.proofs.Common.{◌≡◌, ℕ, zero, suc, ◌+◌, ◌-◌, ◌*◌, ◌/◌, ◌%◌, ◌^◌, ◌<◌, ◌≤◌, min, List, length, get_or, take, sym, refl, ◌∙◌, subst, inl, inr, add-zero, mul_assoc, suc-add, zero-add, arith}
+use Rattle.std.proofs.Common.{◌≡◌, ℕ, zero, suc, ◌+◌, ◌-◌, ◌*◌, ◌^◌, ◌<◌, ◌≤◌, List, length, take, refl, subst, add-zero, mul_assoc, suc-add, zero-add, arith}
 use native.Mathlib.Nat.{mul-add-div, div-eq_of_lt, pow-succ'}
 use Rattle.std.proofs.lemmas.List.{get_or_past, get_or-take}
-use Rattle.std.proofs.lemmas.Bool.{cases_lt}
 use Rattle.words.specs.Bytes.{byte, number}
 use Rattle.words.specs.Laws.{LowByteFirst}
 

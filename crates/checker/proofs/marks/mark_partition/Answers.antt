@@ -1,5 +1,4 @@
-use Rattle.std.proofs.Common.{◌≡◌, Bool, false, ◌&&◌, ◌||◌, eqb, get_or, sym, refl, ap, ◌∙◌, rules}
-use Rattle.words.specs.First.{any}
+use Rattle.std.proofs.Common.{false, ◌&&◌, ◌||◌, eqb, get_or, sym, ap, ◌∙◌}
 use Rattle.words.proofs.First.{any_same}
 use Rattle.checker.specs.Marks.{kernel_test, names, names_in, named_by, named_through, pointed}
 use Rattle.checker.proofs.Marked.{blank_marks, or_assoc}

@@ -1,4 +1,4 @@
-use Rattle.std.proofs.Common.{◌≡◌, arith, rules}
+use Rattle.std.proofs.Common.{arith, rules}
 use Rattle.plan.proofs.Rows.{rows_none, rows_more, rows_all}
 use Rattle.checker.specs.Pages.{ends_or_none, no_ends}
 use Rattle.checker.proofs.pages.all_ends.Goals as goal

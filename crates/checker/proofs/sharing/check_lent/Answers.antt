@@ -1,6 +1,5 @@
-use Rattle.std.proofs.Common.{◌≡◌, true, false, sym, ap, ◌∙◌, rules}
+use Rattle.std.proofs.Common.{true, false, sym, ap, ◌∙◌}
 use Rattle.words.specs.First.{unless}
-use Rattle.checker.specs.Sharing.{lent_refusal}
 use Rattle.checker.proofs.Marked.{blank_marks}
 use Rattle.checker.proofs.Shares.{missing_here}
 use Rattle.checker.proofs.sharing.check_lent.Goals as goal

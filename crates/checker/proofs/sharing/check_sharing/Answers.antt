@@ -1,5 +1,5 @@
 use Rattle.std.proofs.Common.{◌≡◌, ℕ, ◌<◌, false, get_or, sym, refl, ap, ◌∙◌, arith, rules}
-use Rattle.words.specs.First.{first, unless}
+use Rattle.words.specs.First.{unless}
 use Rattle.words.proofs.First.{first_none, first_more, first_stays, checked_all}
 use Rattle.plan.specs.declared.refusal.Refusal.TheVariants.{FrameShared}
 use Rattle.checker.specs.Sharing.{named_at, kernel_at, share_refusal}

@@ -1,4 +1,4 @@
-use Rattle.std.proofs.Common.{◌≡◌, false, get_or, refl, rules}
+use Rattle.std.proofs.Common.{false, get_or, refl, rules}
 use Rattle.checker.specs.Sharing.{named_at}
 use Rattle.checker.proofs.Marked.{marks_none, marks_more}
 use Rattle.checker.proofs.sharing.mark_all.Goals as goal

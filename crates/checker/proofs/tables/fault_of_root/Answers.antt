@@ -1,4 +1,4 @@
-use Rattle.std.proofs.Common.{◌≡◌, false, sym, refl, ◌∙◌, rules}
+use Rattle.std.proofs.Common.{false, sym, refl, ◌∙◌, rules}
 use Rattle.std.proofs.lemmas.List.{get_or-replicate}
 use Rattle.std.proofs.lemmas.Bool.{true≢false}
 use Rattle.words.proofs.First.{first_none, first_more, first_stays}

@@ -1,4 +1,4 @@
-use Rattle.std.proofs.Common.{◌≡◌, false, ltb, get_or, sym, ◌∙◌, rules}
+use Rattle.std.proofs.Common.{false, ltb, get_or, sym, ◌∙◌, rules}
 use Rattle.std.proofs.lemmas.Bool.{and_parts, ltb-true}
 use Rattle.checker.proofs.Known.{known_more}
 use Rattle.checker.proofs.tables.fault_unless_known.Goals as goal

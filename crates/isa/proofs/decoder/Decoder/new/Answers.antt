@@ -1,4 +1,3 @@
-use Rattle.std.proofs.Common.{rules}
 use Rattle.isa.proofs.decoder.Decoder.new.Goals as goal
 
 pub returns : goal.returns

@@ -1,4 +1,4 @@
-use Rattle.std.proofs.Common.{arith, rules}
+use Rattle.std.proofs.Common.{rules}
 use Rattle.words.proofs.First.{count_none, count_more, count_at_most}
 use Rattle.plan.specs.Rules.{leaves}
 use Rattle.plan.proofs.model.Plan.channels_out.Goals as goal
