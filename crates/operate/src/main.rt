@@ -9,7 +9,7 @@ use console::problem::{Problem, Program, VERSION};
 use isa::decoder::Decoder;
 use kernel::report::Report;
 use line::Line;
-use separation::kernel::Kernel;
+use separation::face::Kernel;
 use separation::run::run as run_slots;
 use std::io::{BufWriter, Write};
 use std::process::ExitCode;

@@ -12,7 +12,7 @@ use Rattle.kernel.specs.declared.machine.Machine.{Machine}
 use Rattle.kernel.specs.declared.report.Report.{Report}
 use Rattle.kernel.specs.Machine.{System, after_slot, after_slots, context_of, fresh, fresh_at, loaded, system}
 use Rattle.kernel.specs.Reports.{slot_report}
-use Rattle.separation.specs.declared.kernel.Kernel.{Kernel}
+use Rattle.separation.specs.declared.face.Kernel.{Kernel}
 use Rattle.separation.specs.Agreement.{Agree, In, SameWords, Unseen}
 use Rattle.separation.specs.Calls.{Runs, SlotKeeps, SlotUnseen, Starts, WholeRun, finished_with, first, in_words, last_report, ready, ready_with, words_with}
 use Rattle.separation.specs.Each.{LoadsAlike}

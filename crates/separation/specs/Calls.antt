@@ -9,7 +9,7 @@ use Rattle.checker.specs.Found.{FirstFound, Lawful, Sound}
 use Rattle.kernel.specs.declared.report.Report.{Report}
 use Rattle.kernel.specs.Machine.{System, after_slot, after_slots, loaded, system}
 use Rattle.kernel.specs.Reports.{slot_report}
-use Rattle.separation.specs.declared.kernel.Kernel.{Kernel}
+use Rattle.separation.specs.declared.face.Kernel.{Kernel}
 use Rattle.separation.specs.declared.run.Finished.{Finished}
 use Rattle.separation.specs.Agreement.{Agree, In, SameReport, SameWords, StepByStep, Unseen}
 use Rattle.separation.specs.Flows.{Closed}

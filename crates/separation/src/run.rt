@@ -3,7 +3,7 @@ ghost use Rattle.std.specs.Prelude.{◌≡◌};
 ghost use Rattle.checker.specs.Checked.{checked};
 ghost use Rattle.separation.specs.Calls.{Runs, finished_with, words_with};
 
-use crate::kernel::Kernel;
+use crate::face::Kernel;
 use isa::decoder::Decoder;
 use kernel::report::Report;
 use plan::refusal::Refusal;

@@ -5,7 +5,7 @@ use Rattle.kernel.specs.Machine.{fresh, fresh_at}
 use Rattle.kernel.proofs.machine.fresh_contexts.Goals as goal
 
 pub loop-k-init : goal.loop-k-init
-loop-k-init c = rw c.fresh_contexts.ensures (rows_none (fresh_at c.args.plan.now) (fresh 0) 8)
+loop-k-init c = rw c.fresh-contexts.ensures (rows_none (fresh_at c.args.plan.now) (fresh 0) 8)
 
 pub loop-k-preserved : goal.loop-k-preserved
 loop-k-preserved c =

@@ -17,9 +17,9 @@ loop-turn-preserved c =
     let start = in_words k c.args.words.now in
     let e = c.run_slot-last.ensures in
     let inv = c.loop-turn.invariant in (
-      slots_more k.accepted c.loop-turn.-turn start now _ inv.0 (e.system ∙ ap (λ (a : Accepted). after_slot a now) inv.1),
+      slots_more k.accepted c.loop-turn._turn start now _ inv.0 (e.system ∙ ap (λ (a : Accepted). after_slot a now) inv.1),
       e.accepted ∙ inv.1,
-      last_more k.accepted c.loop-turn.-turn start now _ inv.0 (e.value ∙ ap (λ (a : Accepted). slot_report a.plan now) inv.1),
+      last_more k.accepted c.loop-turn._turn start now _ inv.0 (e.value ∙ ap (λ (a : Accepted). slot_report a.plan now) inv.1),
     )
 
 pub returns : goal.returns
@@ -28,10 +28,10 @@ returns c =
     let words = c.args.words.now in
     let start = c.in_ok-kernel.kernel in
     let l = c.loop-turn in
-    let all : c.loop-turn.-turn ≡ c.args.count = omega arith in
+    let all : c.loop-turn._turn ≡ c.args.count = omega arith in
     let starts_so = c.in_ok-kernel.ensures.value in
     record {
-      value = finished_value bytes words start l.kernel l.words c.args.count l.-turn l.last starts_so all l.invariant.0 l.invariant.1 l.invariant.2;
-      words = finished_words bytes words start l.kernel l.words c.args.count l.-turn l.last starts_so all l.invariant.0 l.invariant.1 l.invariant.2;
-      promises = finished_promises bytes words start l.kernel l.words c.args.count l.-turn l.last starts_so all l.invariant.0 l.invariant.1 l.invariant.2 (omega arith);
+      value = finished_value bytes words start l.kernel l.words c.args.count l._turn l.last starts_so all l.invariant.0 l.invariant.1 l.invariant.2;
+      words = finished_words bytes words start l.kernel l.words c.args.count l._turn l.last starts_so all l.invariant.0 l.invariant.1 l.invariant.2;
+      promises = finished_promises bytes words start l.kernel l.words c.args.count l._turn l.last starts_so all l.invariant.0 l.invariant.1 l.invariant.2 (omega arith);
     }

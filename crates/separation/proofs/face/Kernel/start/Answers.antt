@@ -1,5 +1,5 @@
 use Rattle.separation.proofs.Calling.{started}
-use Rattle.separation.proofs.kernel.Kernel.start.Goals as goal
+use Rattle.separation.proofs.face.Kernel.start.Goals as goal
 
 pub returns : goal.returns
 returns c =
