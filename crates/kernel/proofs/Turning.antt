@@ -1,5 +1,5 @@
 -- What the code of a slot answers is the slot as it is defined.
-use Rattle.std.proofs.Common.{◌≡◌, ℕ, ◌+◌, ◌^◌, ◌<◌, true, ltb, List, set, Some, Option, subst}
+use Rattle.std.proofs.Common.{◌≡◌, ℕ, ◌+◌, ◌^◌, ◌<◌, true, ltb, List, set, Some, subst}
 use Rattle.std.proofs.lemmas.Bool.{and_from, lt-ltb}
 use Rattle.tables.specs.declared.Tables.{Tables}
 use Rattle.hart.specs.declared.context.Context.{Context}
@@ -9,7 +9,6 @@ use Rattle.plan.specs.declared.model.Slot.{Slot}
 use Rattle.plan.specs.Rules.{partition}
 use Rattle.checker.specs.declared.Accepted.{Accepted}
 use Rattle.kernel.specs.declared.machine.Machine.{Machine}
-use Rattle.kernel.specs.declared.report.Report.{Report}
 use Rattle.kernel.specs.Inside.{Inside, beginning, until}
 use Rattle.kernel.specs.Machine.{after_slot, can_run, coming, context_of, ended, inside_after, slot_ran, switched, system, who_runs}
 use Rattle.kernel.specs.Reports.{report_of, slot_report}

@@ -1,5 +1,5 @@
 -- The machine: how it starts, and what a slot makes of it.
-use Rattle.std.specs.Prelude.{ℕ, zero, suc, ◌+◌, ◌^◌, max, Bool, cond, ◌&&◌, List, set, nat_lt, slice_index_or, slice_set}
+use Rattle.std.specs.Prelude.{ℕ, zero, suc, ◌+◌, ◌^◌, max, Bool, cond, ◌&&◌, List, nat_lt, slice_index_or, slice_set}
 use Rattle.isa.specs.Registers.{blank}
 use Rattle.tables.specs.First.{first_tables}
 use Rattle.hart.specs.declared.context.Context.{Context}

@@ -1,6 +1,5 @@
 -- What is told of a slot.
-use Rattle.std.specs.Prelude.{ℕ, cond, Some, None, Option}
-use Rattle.checker.specs.declared.Accepted.{Accepted}
+use Rattle.std.specs.Prelude.{cond, Some, None, Option}
 use Rattle.plan.specs.declared.model.Plan.{Plan}
 use Rattle.kernel.specs.declared.report.Report.{Report}
 use Rattle.kernel.specs.Inside.{Inside}

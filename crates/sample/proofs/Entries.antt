@@ -1,10 +1,8 @@
 -- The flags of an entry do not depend on the frame that it names.
-use Rattle.std.proofs.Common.{◌≡◌, ℕ, ◌+◌, ◌*◌, ◌/◌, ◌%◌, ◌^◌, ◌<◌, true, false, eqb, sym, refl, ap, ◌∙◌, inl, arith}
-use Rattle.words.specs.Bits.{field}
-use Rattle.paging.specs.declared.leaf.Leaf.{Leaf}
+use Rattle.std.proofs.Common.{◌≡◌, ℕ, ◌+◌, ◌*◌, ◌/◌, ◌%◌, ◌<◌, true, false, eqb, refl, ap, inl, arith}
 use Rattle.paging.specs.Entries.{flag, frame_of, is_leaf, is_valid}
 use Rattle.paging.specs.Mapping.{LeafEntry, Pointer}
-use Rattle.sample.specs.Memory.{points_at, reads, runs, writes}
+use Rattle.sample.specs.Memory.{points_at, reads, writes}
 
 module _ (f low : ℕ) where
   flag_0 : flag (f * 1024 + low) 0 ≡ flag low 0

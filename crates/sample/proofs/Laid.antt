@@ -1,5 +1,5 @@
 -- The words of the sample's memory, and what follows for its page tables.
-use Rattle.std.proofs.Common.{◌≡◌, ℕ, zero, suc, ◌+◌, ◌*◌, ◌/◌, ◌%◌, ◌<◌, ◌≤◌, true, false, cond, ◌≢◌, ◌⊎◌, List, length, get_or, sym, refl, ap, ◌∙◌, subst, inl, inr, arith}
+use Rattle.std.proofs.Common.{◌≡◌, ℕ, zero, suc, ◌+◌, ◌*◌, ◌/◌, ◌%◌, ◌<◌, ◌≤◌, true, false, ◌≢◌, ◌⊎◌, length, sym, refl, ap, ◌∙◌, arith}
 use Rattle.std.proofs.lemmas.List.FromFn.{get_or-map-range_with_len, length-map-range_with_len}
 use Rattle.std.proofs.lemmas.Bool.{eq-eqb, ne_eqb, true≢false}
 use Rattle.words.specs.First.{count, first, most}
@@ -9,10 +9,8 @@ use Rattle.paging.specs.Mapping.{InMemory}
 use Rattle.paging.specs.Tables.{KernelFrame, Names}
 use Rattle.plan.specs.Format.{plan_of, rows}
 use Rattle.plan.specs.Lawful.{Lawful}
-use Rattle.plan.specs.Rules.{channel}
 use Rattle.plan.proofs.Kept.{tested}
-use Rattle.checker.specs.declared.pages.Ends.{Ends}
-use Rattle.checker.specs.Lawful.{Formed, Joins, Lent, PagesFit, RootFits, Usable, root}
+use Rattle.checker.specs.Lawful.{Formed, Joins, Lent, PagesFit, RootFits, root}
 use Rattle.sample.specs.Memory.{Layout, memory, root_entry, table_entry, two, word_in, reads, runs, writes}
 use Rattle.sample.specs.Verdicts.{Free}
 use Rattle.sample.proofs.Entries.{reads_leaf, writes_leaf}

@@ -1,12 +1,12 @@
 -- One partition of the sample: its root has one table, and its table has pages 16 and 17.
-use Rattle.std.proofs.Common.{◌≡◌, ℕ, ◌+◌, ◌*◌, ◌<◌, true, false, cond, ◌⊎◌, List, sym, refl, ap, ◌∙◌, subst, inl, inr, arith}
+use Rattle.std.proofs.Common.{◌≡◌, ℕ, ◌+◌, ◌*◌, ◌<◌, true, ◌⊎◌, List, sym, refl, ap, ◌∙◌, subst, inl, inr, arith}
 use Rattle.std.proofs.lemmas.Bool.{and_parts, cases_eq, ne_eqb, true≢false}
 use Rattle.words.specs.Frames.{word}
 use Rattle.paging.specs.declared.leaf.Leaf.{Leaf}
 use Rattle.paging.specs.Entries.{flag, frame_of, is_leaf, is_valid}
 use Rattle.paging.specs.Mapping.{InMemory, LeafEntry, Pointer}
 use Rattle.paging.specs.Tables.{KernelFrame, Names, PointsTo}
-use Rattle.checker.specs.Lawful.{EntryFits, Formed, Leads, Lent, TableFormed}
+use Rattle.checker.specs.Lawful.{Formed, Leads, Lent, TableFormed}
 use Rattle.sample.specs.Memory.{points_at, root_entry, table_entry}
 use Rattle.sample.proofs.Entries.{frame_at, leaf_form, pointer, valid_of}
 

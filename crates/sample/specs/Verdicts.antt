@@ -1,5 +1,5 @@
 -- What the checker says of the plan and its memory.
-use Rattle.std.specs.Prelude.{◌≡◌, ℕ, ◌<◌, ◌≤◌, ◌≢◌, ◌⊎◌, Ok, Err}
+use Rattle.std.specs.Prelude.{◌≡◌, ℕ, ◌<◌, ◌≤◌, ◌≢◌, Ok, Err}
 use Rattle.words.specs.Frames.{word}
 use Rattle.paging.specs.Tables.{Owns}
 use Rattle.plan.specs.declared.refusal.Refusal.TheVariants.{FrameShared}

@@ -1,22 +1,20 @@
 -- What the calls answer is what they promise.
-use Rattle.std.proofs.Common.{◌≡◌, ℕ, zero, suc, ◌+◌, ◌^◌, ◌<◌, ◌≤◌, Bool, List, Ok, Err, Option, Result, sym, refl, ap, ◌∙◌, subst, add-one, arith, MatchResult}
-use Rattle.plan.specs.declared.model.Plan.{Plan}
+use Rattle.std.proofs.Common.{◌≡◌, ℕ, zero, suc, ◌+◌, ◌^◌, ◌<◌, ◌≤◌, List, Ok, Err, Option, Result, sym, refl, ap, ◌∙◌, subst, add-one, arith, MatchResult}
 use Rattle.plan.specs.declared.refusal.Refusal.{Refusal}
 use Rattle.plan.specs.Timetable.{begins}
 use Rattle.plan.proofs.Rows.{length_rows}
 use Rattle.checker.specs.declared.Accepted.{Accepted}
 use Rattle.checker.specs.Checked.{checked}
-use Rattle.checker.specs.Found.{FirstFound, Lawful, Sound}
+use Rattle.checker.specs.Found.{FirstFound, Sound}
 use Rattle.checker.proofs.Judged.{accepted_sound, judged, lawful_accepted}
 use Rattle.kernel.specs.declared.machine.Machine.{Machine}
 use Rattle.kernel.specs.declared.report.Report.{Report}
 use Rattle.kernel.specs.Machine.{System, after_slot, after_slots, context_of, fresh, fresh_at, loaded, system}
 use Rattle.kernel.specs.Reports.{slot_report}
 use Rattle.separation.specs.declared.face.Kernel.{Kernel}
-use Rattle.separation.specs.Agreement.{Agree, In, SameWords, Unseen}
+use Rattle.separation.specs.Agreement.{Agree, In}
 use Rattle.separation.specs.Calls.{Runs, SlotKeeps, SlotUnseen, Starts, WholeRun, finished_with, first, in_words, last_report, ready, ready_with, words_with}
 use Rattle.separation.specs.Each.{LoadsAlike}
-use Rattle.separation.specs.Flows.{Closed}
 use Rattle.separation.specs.Promises.{SlotPromises}
 use Rattle.separation.specs.Running.{Running}
 use Rattle.separation.proofs.Slots.{keeps_promises}

@@ -1,7 +1,7 @@
 -- Messages: what arrives, what stays, and that two systems carry alike.
-use Rattle.std.proofs.Common.{◌≡◌, ℕ, zero, suc, ◌+◌, ◌<◌, ◌≤◌, Bool, true, false, cond, eqb, ◌≢◌, ◌⊎◌, List, length, Ok, sym, refl, ap, ◌∙◌, subst, inl, inr, arith}
-use Rattle.std.proofs.lemmas.Bool.{cases_Bool, cases_eq, cases_lt, eqb-true, true≢false}
-use Rattle.words.specs.Frames.{copied, lent, word}
+use Rattle.std.proofs.Common.{◌≡◌, ℕ, zero, suc, ◌<◌, ◌≤◌, true, ◌≢◌, List, length, sym, refl, ap, ◌∙◌, subst, inl, inr, arith}
+use Rattle.std.proofs.lemmas.Bool.{cases_Bool, cases_eq, cases_lt, true≢false}
+use Rattle.words.specs.Frames.{word}
 use Rattle.words.proofs.Frame.{copies}
 use Rattle.paging.specs.Tables.{Names, Owns, SameTables}
 use Rattle.paging.proofs.Agree.{tables_decide, walks_find}
@@ -18,7 +18,7 @@ use Rattle.separation.specs.Agreement.{SameWords}
 use Rattle.separation.specs.Flows.{Closed}
 use Rattle.separation.proofs.Facts.{Facts, behind_names, facts_kept}
 use Rattle.separation.proofs.Frames.{Kept, kept_more, kept_none, others_kept, owns_back, owns_there}
-use Rattle.separation.proofs.Steps.{SoundFrames, foreign}
+use Rattle.separation.proofs.Steps.{foreign}
 
 module _ (a : Accepted) (who : ℕ) where
   -- one message

@@ -1,16 +1,15 @@
 -- What the checker's acceptance tells, over the accepted plan, its frames and the words.
-use Rattle.std.proofs.Common.{◌≡◌, ℕ, ◌+◌, ◌*◌, ◌/◌, ◌%◌, ◌<◌, ◌≤◌, Bool, true, false, ◌≢◌, ◌⊎◌, List, length, get_or, Ok, sym, refl, ap, ◌∙◌, subst, inl, inr, arith}
+use Rattle.std.proofs.Common.{◌≡◌, ℕ, ◌*◌, ◌%◌, ◌<◌, ◌≤◌, true, ◌≢◌, List, Ok, sym, subst, inl, inr, arith}
 use Rattle.std.proofs.lemmas.Nat.{mod_below}
 use Rattle.std.proofs.lemmas.Bool.{cases_lt, lt-ltb}
-use Rattle.words.specs.Frames.{lent, word}
+use Rattle.words.specs.Frames.{lent}
 use Rattle.paging.specs.declared.leaf.Leaf.{Leaf}
 use Rattle.paging.specs.Mapping.{Maps}
-use Rattle.paging.specs.Tables.{KernelFrame, Names, Owns}
+use Rattle.paging.specs.Tables.{Names, Owns}
 use Rattle.paging.proofs.Agree.{leaves_named}
 use Rattle.plan.specs.declared.model.Endpoint.{Endpoint}
 use Rattle.plan.specs.declared.model.Plan.{Plan}
-use Rattle.plan.specs.declared.model.Slot.{Slot}
-use Rattle.plan.specs.declared.refusal.Count.TheVariants.{Partitions, Slots, Channels}
+use Rattle.plan.specs.declared.refusal.Count.TheVariants.{Partitions, Slots}
 use Rattle.plan.specs.Format.{plan_of}
 use Rattle.plan.specs.Rules.{ample, channel}
 use Rattle.plan.specs.Timetable.{begins, slot_of}
@@ -18,12 +17,12 @@ use Rattle.plan.proofs.Times.{lawful_bounded as bounded}
 use Rattle.checker.specs.declared.Accepted.{Accepted}
 use Rattle.checker.specs.declared.pages.Ends.{Ends}
 use Rattle.checker.specs.Checked.{checked}
-use Rattle.checker.specs.Found.{Behind, ChannelJoins, Lawful, Separate, Sound}
-use Rattle.checker.specs.Lawful.{Joins, Leads, Lent, PagesFit, Touch, Usable, root}
-use Rattle.checker.specs.Pages.{behind, ends_at}
+use Rattle.checker.specs.Found.{Behind, Lawful, Separate, Sound}
+use Rattle.checker.specs.Lawful.{Joins, Leads, Touch, root}
+use Rattle.checker.specs.Pages.{ends_at}
 use Rattle.checker.proofs.Joined.{joins_behind}
 use Rattle.checker.proofs.Judged.{accepted_separate, accepted_sound}
-use Rattle.separation.proofs.Frames.{Kept, accepts_kept, kept_lent, maps_kept, names_there}
+use Rattle.separation.proofs.Frames.{Kept, accepts_kept, maps_kept}
 use Rattle.separation.proofs.Steps.{SoundFrames, sound_kept}
 
 -- the partitions of a channel, and the frames that it joins

@@ -1,10 +1,10 @@
 -- What a change of words keeps: as long as roots and tables stay, so do walks, ownership and acceptance.
-use Rattle.std.proofs.Common.{◌≡◌, ℕ, ◌+◌, ◌*◌, ◌/◌, ◌<◌, ◌≤◌, Bool, true, false, ◌≢◌, ◌⊎◌, List, length, get_or, Ok, sym, refl, ap, ◌∙◌, subst, inl, inr, arith}
+use Rattle.std.proofs.Common.{◌≡◌, ℕ, ◌<◌, Bool, true, false, List, length, Ok, sym, refl, ap, ◌∙◌, inl, inr, arith}
 use Rattle.words.specs.Frames.{lent, word}
 use Rattle.paging.specs.declared.leaf.Leaf.{Leaf}
-use Rattle.paging.specs.Entries.{frame_of, is_valid}
-use Rattle.paging.specs.Mapping.{InMemory, LeafEntry, Maps, Pointer}
-use Rattle.paging.specs.Tables.{Alike, KernelFrame, Names, Owns, PointsTo, SameTables}
+use Rattle.paging.specs.Entries.{frame_of}
+use Rattle.paging.specs.Mapping.{InMemory, Maps}
+use Rattle.paging.specs.Tables.{Alike, KernelFrame, Names, Owns, SameTables}
 use Rattle.paging.specs.Walks.{walked}
 use Rattle.paging.proofs.Agree.{tables_decide}
 use Rattle.plan.specs.declared.model.Endpoint.{Endpoint}
@@ -15,11 +15,11 @@ use Rattle.plan.proofs.Rows.{rows_below}
 use Rattle.checker.specs.declared.Accepted.{Accepted}
 use Rattle.checker.specs.declared.pages.Ends.{Ends}
 use Rattle.checker.specs.Checked.{accepted, checked}
-use Rattle.checker.specs.Found.{Lawful, Separate, Sound}
-use Rattle.checker.specs.Lawful.{AllLent, Conflict, EntryFits, Formed, Joins, Leads, Lent, PagesFit, RootFits, TableFormed, Usable, root}
+use Rattle.checker.specs.Found.{Lawful, Separate}
+use Rattle.checker.specs.Lawful.{Conflict, Formed, Joins, Leads, Lent, PagesFit, Usable, root}
 use Rattle.checker.specs.Pages.{ends_or_none, no_ends}
 use Rattle.checker.proofs.Joined.{ends_kept}
-use Rattle.checker.proofs.Judged.{accepted_separate, accepted_sound, lawful_accepted}
+use Rattle.checker.proofs.Judged.{accepted_sound, lawful_accepted}
 
 -- of one root
 module _ (ws vs : List ℕ) (r : ℕ) (same : SameTables ws vs r) where

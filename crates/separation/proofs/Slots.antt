@@ -1,33 +1,29 @@
 -- One slot of a system that runs an accepted plan: every promise.
-use Rattle.std.proofs.Common.{◌≡◌, ℕ, zero, suc, ◌+◌, ◌*◌, ◌/◌, ◌^◌, ◌<◌, ◌≤◌, max, Bool, true, false, cond, eqb, ◌≢◌, ◌⊎◌, List, length, set, Ok, sym, refl, ap, ◌∙◌, subst, inl, inr, add-one, arith}
-use Rattle.std.proofs.lemmas.List.{get_or-set_other, get_or-set_same, length-set}
-use Rattle.std.proofs.lemmas.Bool.{cases_Bool, cases_eq, cond-true, eq-eqb, eqb-true}
+use Rattle.std.proofs.Common.{◌≡◌, ℕ, ◌+◌, ◌^◌, ◌<◌, ◌≤◌, true, ◌≢◌, List, length, set, sym, refl, ap, ◌∙◌, subst, add-one, arith}
+use Rattle.std.proofs.lemmas.List.{get_or-set_other, length-set}
+use Rattle.std.proofs.lemmas.Bool.{cond-true, eq-eqb, eqb-true}
 use Rattle.words.specs.Costs.{highest}
 use Rattle.words.specs.Frames.{word}
 use Rattle.words.proofs.First.{count_at_most, most_bound}
-use Rattle.paging.specs.Tables.{Names, Owns}
 use Rattle.tables.specs.Cache.{dirty_at}
 use Rattle.tables.specs.First.{first_tables}
 use Rattle.tables.specs.Honest.{Honest}
 use Rattle.tables.proofs.Truth.{honesty}
 use Rattle.hart.proofs.Agreeing.{agreement}
-use Rattle.plan.specs.declared.model.Plan.{Plan}
 use Rattle.plan.specs.Rules.{channel, channels_out, leaves}
-use Rattle.plan.specs.Timetable.{begins, slot_of}
+use Rattle.plan.specs.Timetable.{begins}
 use Rattle.checker.specs.declared.Accepted.{Accepted}
-use Rattle.checker.specs.Checked.{checked}
 use Rattle.checker.specs.Found.{Behind}
 use Rattle.checker.specs.Lawful.{root}
-use Rattle.kernel.specs.Inside.{Inside, beginning, until}
-use Rattle.kernel.specs.Machine.{System, after_slot, can_run, coming, context_of, ended, entered, fresh, inside_after, slot_end, slot_ran, who_runs}
+use Rattle.kernel.specs.Machine.{System, after_slot, can_run, coming, ended, entered, fresh, inside_after, slot_end, slot_ran, who_runs}
 use Rattle.kernel.specs.Switch.{delivered, ends_of, switch_work}
 use Rattle.kernel.proofs.Turning.{can}
-use Rattle.separation.specs.Promises.{Confined, KeepsPromises, Messages, Progress, SlotPromises, Switches, TranslatesThroughout, runs}
+use Rattle.separation.specs.Promises.{Confined, KeepsPromises, Messages, Progress, SlotPromises, TranslatesThroughout, runs}
 use Rattle.separation.specs.Running.{Running}
 use Rattle.separation.proofs.Carrying.{delivered_kept, delivered_others, delivered_there, is_receiver}
 use Rattle.separation.proofs.Facts.{Facts, accepts_again, facts, facts_kept}
 use Rattle.separation.proofs.Frames.{Kept, kept_more}
-use Rattle.separation.proofs.Steps.{Counted, Good, Went, foreign, until_counted, until_least, until_most, until_went}
+use Rattle.separation.proofs.Steps.{Good, Went, foreign, until_counted, until_least, until_most, until_went}
 
 module _ (bytes : List ℕ) (a : Accepted) (s : System) (running : Running bytes a s) where
   pub known : Facts a.plan a.ends s.words

@@ -1,16 +1,14 @@
 -- The steps of one slot: what they keep, what they leave alone, how long they take, and that two systems take them alike.
-use Rattle.std.proofs.Common.{◌≡◌, ℕ, zero, suc, ◌+◌, ◌-◌, ◌*◌, ◌<◌, ◌≤◌, Bool, true, false, cond, ltb, ◌≢◌, ◌⊎◌, List, sym, refl, ap, ◌∙◌, subst, inl, inr, arith}
-use Rattle.std.proofs.lemmas.Bool.{cases_eq, cases_lt, cond-true, cond-false, le-ltb, lt-ltb}
+use Rattle.std.proofs.Common.{◌≡◌, ℕ, zero, suc, ◌+◌, ◌*◌, ◌<◌, ◌≤◌, true, ◌≢◌, List, sym, refl, ap, ◌∙◌, subst, inl, inr, arith}
+use Rattle.std.proofs.lemmas.Bool.{cases_eq, cases_lt, le-ltb, lt-ltb}
 use Rattle.words.specs.Costs.{highest}
 use Rattle.words.specs.Frames.{lent, word}
-use Rattle.paging.specs.Tables.{KernelFrame, Names, Owns, SameLent, SameTables}
+use Rattle.paging.specs.Tables.{Names, Owns, SameTables}
 use Rattle.tables.specs.Honest.{Honest}
-use Rattle.hart.specs.declared.cause.Cause.{Cause}
-use Rattle.hart.specs.declared.context.Context.{Context}
 use Rattle.hart.specs.declared.context.State.{State}
 use Rattle.hart.specs.declared.context.State.TheVariants.{Ready, Stopped}
 use Rattle.hart.specs.Core.{stepped}
-use Rattle.hart.specs.Laws.{SameOwn, SameStep}
+use Rattle.hart.specs.Laws.{SameOwn}
 use Rattle.hart.specs.Steps.{Step}
 use Rattle.hart.proofs.Honesty.{stays_honest}
 use Rattle.hart.proofs.Own.{sees_own}
@@ -19,9 +17,9 @@ use Rattle.hart.proofs.Writing.{writes_own}
 use Rattle.plan.specs.declared.model.Plan.{Plan}
 use Rattle.checker.specs.Found.{Separate}
 use Rattle.checker.specs.Lawful.{root}
-use Rattle.kernel.specs.Inside.{Inside, is_ready, next, until}
+use Rattle.kernel.specs.Inside.{Inside, next, until}
 use Rattle.separation.specs.Agreement.{SameInside, SameWords}
-use Rattle.separation.proofs.Frames.{Kept, kernel_back, kept_none, kept_more, kept_lent, names_back, names_there, others_kept, owns_back, owns_there}
+use Rattle.separation.proofs.Frames.{Kept, kernel_back, kept_none, kept_more, kept_lent, names_back, others_kept, owns_back, owns_there}
 
 -- what the checker tells of the frames of a plan's partitions
 pub record SoundFrames (p : Plan) (ws : List ℕ) : Type 0 where

@@ -1,11 +1,10 @@
 -- Noninterference: two systems that agree on a closed set go on agreeing, slot by slot and step by step.
-use Rattle.std.proofs.Common.{◌≡◌, ℕ, zero, suc, ◌+◌, ◌^◌, ◌<◌, ◌≤◌, Bool, true, false, cond, ◌&&◌, ltb, ◌≢◌, ◌⊎◌, List, length, Some, None, sym, refl, ap, ◌∙◌, subst, inl, inr, arith}
+use Rattle.std.proofs.Common.{◌≡◌, ℕ, zero, suc, ◌+◌, ◌^◌, ◌<◌, cond, ◌&&◌, ltb, List, length, Some, None, sym, refl, ap, ◌∙◌, subst, inl, inr, arith}
 use Rattle.std.proofs.lemmas.List.{get_or-set_same}
-use Rattle.std.proofs.lemmas.Bool.{and_parts, cases_Bool, cases_eq, cond-false, ltb-true}
+use Rattle.std.proofs.lemmas.Bool.{and_parts, cases_Bool, cases_eq, ltb-true}
 use Rattle.words.specs.Frames.{word}
-use Rattle.paging.specs.Tables.{Owns, SameTables}
+use Rattle.paging.specs.Tables.{SameTables}
 use Rattle.tables.specs.Honest.{Honest}
-use Rattle.hart.specs.declared.context.Context.{Context}
 use Rattle.plan.specs.declared.model.Plan.{Plan}
 use Rattle.plan.specs.Timetable.{slot_of}
 use Rattle.checker.specs.declared.Accepted.{Accepted}
@@ -18,13 +17,12 @@ use Rattle.kernel.specs.Machine.{System, after_slot, after_slots, can_run, comin
 use Rattle.kernel.specs.Reports.{report_of, slot_report}
 use Rattle.kernel.specs.Switch.{delivered}
 use Rattle.separation.specs.Agreement.{Agree, AllBut, In, Noninterference, NotReached, Only, SameInside, SameReport, SameWords, StepByStep, Unseen}
-use Rattle.separation.specs.Flows.{Closed, Flows, RowOfFlows, stays, goes_on}
+use Rattle.separation.specs.Flows.{Closed, RowOfFlows, stays, goes_on}
 use Rattle.separation.specs.Promises.{SlotPromises, runs}
 use Rattle.separation.specs.Running.{Running}
 use Rattle.separation.proofs.Carrying.{delivered_alike}
-use Rattle.separation.proofs.Facts.{Facts}
 use Rattle.separation.proofs.Frames.{owns_back, owns_there}
-use Rattle.separation.proofs.Slots.{contexts_are, end_facts, good, known, next, promised, went, who_known, words_are}
+use Rattle.separation.proofs.Slots.{contexts_are, end_facts, good, known, promised, went, who_known, words_are}
 use Rattle.separation.proofs.Steps.{Good, foreign, until_alike}
 
 -- reports with the same parts

@@ -1,4 +1,4 @@
-use Rattle.std.proofs.Common.{◌≡◌, ℕ, ◌+◌, ◌-◌, ◌≤◌, max, false, ◌⊎◌, sym, refl, ap, ◌∙◌, inl, inr, arith}
+use Rattle.std.proofs.Common.{◌≡◌, ◌+◌, ◌-◌, ◌≤◌, max, false, ◌⊎◌, sym, ap, ◌∙◌, inl, inr, arith}
 use Rattle.kernel.specs.Inside.{Inside, beginning, is_ready, until}
 use Rattle.kernel.proofs.Running.{done, enough, turned}
 use Rattle.kernel.proofs.inside.run_until.Goals as goal

@@ -1,6 +1,6 @@
-use Rattle.std.proofs.Common.{◌≡◌, ℕ, sym, refl, ap, ◌∙◌, arith}
+use Rattle.std.proofs.Common.{◌≡◌, refl, ap, ◌∙◌, arith}
 use Rattle.checker.specs.declared.Accepted.{Accepted}
-use Rattle.kernel.specs.Machine.{System, after_slot}
+use Rattle.kernel.specs.Machine.{after_slot}
 use Rattle.kernel.specs.Reports.{slot_report}
 use Rattle.separation.specs.Calls.{in_words, last_report}
 use Rattle.separation.proofs.Calling.{finished_promises, finished_value, finished_words, last_more, slots_more, slots_none}

@@ -1,9 +1,8 @@
-use Rattle.std.proofs.Common.{◌≡◌, ℕ, ◌+◌, ◌^◌, ◌<◌, true, get_or, Some, sym, refl, ap, ◌∙◌, arith, rules}
+use Rattle.std.proofs.Common.{◌≡◌, get_or, Some, sym, ap, ◌∙◌, arith, rules}
 use borrow.Author.Rules.{get_or_read}
 use Rattle.plan.specs.declared.model.Slot.{Slot}
-use Rattle.kernel.specs.declared.machine.Machine.{Machine}
 use Rattle.kernel.specs.Inside.{Inside}
-use Rattle.kernel.specs.Machine.{after_slot, can_run, context_of, ended, system}
+use Rattle.kernel.specs.Machine.{after_slot, context_of, ended, system}
 use Rattle.kernel.specs.Reports.{slot_report}
 use Rattle.kernel.proofs.Turning.{can, inside_is, machine_after, same_end, told, words_after}
 use Rattle.kernel.proofs.machine.Machine.run_slot.Goals as goal
