@@ -1,7 +1,8 @@
 -- The parser's answer is the verdict that the rules ask for.
-use Rattle.std.proofs.Common.{◌≡◌, ℕ, ◌<◌, ◌≤◌, List, Some, None, Option, refl, subst, arith}
+use Rattle.std.proofs.Common.{◌≡◌, ℕ, ◌<◌, ◌≤◌, List, Some, None, Option, Result, refl, subst, arith}
 use Rattle.plan.specs.declared.refusal.Refusal.{Refusal}
 use Rattle.plan.specs.declared.refusal.Refusal.TheVariants.{Truncated, CountRange, SlotRule, ChannelRule, ChannelPage, RootRule, TableMalformed, FrameShared, StartMisaligned, BudgetRule, FramesMissing, Surplus}
+use Rattle.plan.specs.declared.model.Plan.{Plan}
 use Rattle.plan.specs.Format.{plan_of}
 use Rattle.words.specs.First.{or_else}
 use Rattle.plan.specs.Refused.{number_of, place_of}
@@ -91,3 +92,7 @@ module _ (bytes : List ℕ) where
 
   pub judged : Judges bytes (parsed bytes)
   judged = judged_at (fault bytes (plan_of bytes)) refl
+
+  -- what answers as the definition does has the verdict
+  pub judged_as : (r : Result Plan Refusal) → r ≡ parsed bytes → Judges bytes r
+  judged_as r e = rw e judged

@@ -1,6 +1,6 @@
 -- What a row of loads and stores alone tells, with no cache in it.
 use Rattle.std.specs.Prelude.{◌≡◌, ℕ, ◌+◌, Bool, true, List, ◌∷◌, ◌++◌, ◌≢◌}
-use Rattle.std.specs.List.{AllByRecursion as All}
+use Rattle.std.specs.List.{AllByRecursion}
 use Rattle.words.specs.Costs.{miss, write_back}
 use Rattle.tables.specs.Cache.{place_of}
 use Rattle.tables.specs.Rows.{Use}
@@ -20,7 +20,7 @@ pub record Since (wanted : Use → Bool) (line : ℕ) (row : List Use) : Type 0 
   pub parts : row ≡ before ++ (this ∷ later)
   pub to_line : this.line ≡ line
   pub is_wanted : wanted this ≡ true
-  pub undisturbed : All (Apart line) later
+  pub undisturbed : AllByRecursion (Apart line) later
 
 -- the line came in, and has not been driven out
 abbrev pub Resident : ℕ → List Use → Type 0

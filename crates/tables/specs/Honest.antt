@@ -1,6 +1,6 @@
 -- A TLB that answers what a walk would.
 use Rattle.std.specs.Prelude.{◌≡◌, ℕ, ◌/◌, ◌%◌, cond, List, Some, None, Ok, Err, Option, Result}
-use Rattle.std.specs.List.{AllByRecursion as All}
+use Rattle.std.specs.List.{AllByRecursion}
 use Rattle.paging.specs.declared.access.Access.{Access}
 use Rattle.paging.specs.declared.translate.PageFault.{PageFault}
 use Rattle.paging.specs.declared.translate.Place.{Place}
@@ -17,7 +17,7 @@ TrueEntry words root (Some entry) = walked words root entry.page ≡ Some entry.
 
 -- and so has every entry
 abbrev pub Honest : Tlb → List ℕ → ℕ → Type 0
-Honest tlb words root = All (TrueEntry words root) tlb.entries
+Honest tlb words root = AllByRecursion (TrueEntry words root) tlb.entries
 
 -- the place that a look-up gives for an address in its page, or the fault
 abbrev pub reached : Lookup → ℕ → Access → Result Place PageFault

@@ -1,6 +1,6 @@
 -- What the definitions of this crate come to.
 use Rattle.std.specs.Prelude.{◌≡◌, ℕ, ◌+◌, ◌*◌, ◌≤◌, Bool, true, false, cond, ◌⊎◌, List, length, replicate, is_some, Decides, Option, ◌≢◌}
-use Rattle.std.specs.List.{AllByRecursion as All}
+use Rattle.std.specs.List.{AllByRecursion}
 use Rattle.words.specs.Costs.{highest, highest_branch, instruction, miss, misprediction, page_walk, write_back}
 use Rattle.paging.specs.declared.access.Access.{Access}
 use Rattle.paging.specs.declared.leaf.Leaf.{Leaf}
@@ -66,7 +66,7 @@ FramesConflict = (cache : Cache) (from to : Place) → Whole cache → from.offs
 -- other branches may lie between, as long as each that has the same counter is taken too
 pub record Predicted (address : ℕ) : Type 0 where
   pub alone : (n : ℕ) → loop_cost address first_predictor (replicate (n + 1) (record { address = address; taken = true })) ≡ misprediction
-  pub among_others : (row : List Branch) → All (Taken address) row → loop_cost address first_predictor row ≤ misprediction
+  pub among_others : (row : List Branch) → AllByRecursion (Taken address) row → loop_cost address first_predictor row ≤ misprediction
 
 abbrev pub LoopsPredicted : Type 0
 LoopsPredicted = (address : ℕ) → Predicted address
@@ -74,7 +74,7 @@ LoopsPredicted = (address : ℕ) → Predicted address
 -- 64 counters from 0 to 3
 pub record InRange (predictor : Predictor) : Type 0 where
   pub as_many : length predictor.counters ≡ 64
-  pub at_most : All (λ n. n ≤ 3) predictor.counters
+  pub at_most : AllByRecursion (λ n. n ≤ 3) predictor.counters
 
 pub record CountersStay : Type 0 where
   pub first : InRange first_predictor

@@ -1,5 +1,6 @@
-use Rattle.plan.proofs.Judged.{judged}
+use Rattle.std.proofs.Common.{rules}
+use Rattle.plan.proofs.Judged.{judged_as}
 use Rattle.plan.proofs.rules.parse.Goals as goal
 
 pub returns : goal.returns
-returns c = record { value = c.first_fault.ensures; verdict = rw c.first_fault.ensures (judged c.args.bytes.now) }
+returns c = record { value = search rules; verdict = judged_as c.args.bytes.now _ (search rules) }
