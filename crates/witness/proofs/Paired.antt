@@ -1,14 +1,12 @@
 -- Two systems that agree on the first partition and differ elsewhere.
-use Rattle.std.proofs.Common.{◌≡◌, ℕ, ◌+◌, ◌*◌, ◌/◌, ◌%◌, ◌<◌, ◌≢◌, List, length, sym, refl, ap, ◌∙◌, subst, arith}
+use Rattle.std.proofs.Common.{◌≡◌, ℕ, ◌*◌, ◌/◌, ◌%◌, length, refl, ap, ◌∙◌, subst, arith}
 use Rattle.std.proofs.lemmas.List.FromFn.{length-map-range_with_len}
 use Rattle.std.proofs.lemmas.Bool.{eqb-true}
-use Rattle.words.specs.Bytes.{number}
 use Rattle.plan.specs.Format.{plan_of, rows}
 use Rattle.plan.specs.Rules.{channel}
-use Rattle.checker.specs.Checked.{accepted}
 use Rattle.checker.specs.Lawful.{root}
-use Rattle.separation.specs.Agreement.{Agree, In, Unseen}
-use Rattle.separation.specs.Flows.{Closed, Flows}
+use Rattle.separation.specs.Agreement.{Agree, In}
+use Rattle.separation.specs.Flows.{Closed}
 use Rattle.paging.specs.Tables.{Owns}
 use Rattle.separation.specs.Running.{Running}
 use Rattle.separation.proofs.Calling.{running_first}
