@@ -6,7 +6,6 @@ pub mod context;
 pub mod execute;
 pub mod laws;
 pub mod memory;
-pub mod remembering;
 pub mod step;
 #[cfg(test)]
 mod tests;

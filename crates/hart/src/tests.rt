@@ -1,7 +1,7 @@
 // Examples. The program `conformance` has the many.
 use crate::cause::Cause;
 use crate::context::{Context, State};
-use crate::remembering::step_remembering;
+use crate::step::step_with;
 use isa::decoder::Decoder;
 use isa::register::{Register, Registers};
 use tables::Tables;
@@ -46,7 +46,7 @@ fn halves_of_the_clock(rt: HostRuntime) {
         lay_out(&mut words, code);
         let (mut context, mut tables) = (ready(), Tables::new());
         let clock = 0x5_0000_0007;
-        let cost = step_remembering(
+        let cost = step_with(
             &mut context,
             &mut tables,
             &mut words,
@@ -70,7 +70,7 @@ fn a_byte_stored(rt: HostRuntime) {
         let (mut context, mut tables) = (ready(), Tables::new());
         context.registers.write(Register::new(1), address);
         context.registers.write(Register::new(2), 0x1234_56ff);
-        let took = step_remembering(&mut context, &mut tables, &mut words, 0, 0, &mut decoder);
+        let took = step_with(&mut context, &mut tables, &mut words, 0, 0, &mut decoder);
         assert_eq!(rt; took, cost);
         assert_eq!(rt; read(&words, 3, 0), word);
     }

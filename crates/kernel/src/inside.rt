@@ -3,7 +3,7 @@ ghost use Rattle.std.specs.Prelude.{◌≡◌, ◌+◌, ◌^◌, ◌<◌};
 ghost use Rattle.kernel.specs.Inside.{beginning, is_ready, until};
 
 use hart::context::{Context, State};
-use hart::remembering::step_remembering;
+use hart::step::step_with;
 use isa::decoder::Decoder;
 use tables::Tables;
 
@@ -45,7 +45,7 @@ pub(crate) fn run_until(
     let mut clock = begin;
     let mut instructions = 0;
     while clock < stop && is_ready(context.state) {
-        clock += u64::from(step_remembering(context, tables, words, root, clock, decoder));
+        clock += u64::from(step_with(context, tables, words, root, clock, decoder));
         instructions += 1;
     }
     Progress {

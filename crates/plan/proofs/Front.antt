@@ -83,19 +83,6 @@ module _ (bytes : List ℕ) (n : ℕ) (small : (i : ℕ) → byte bytes i < 256)
       let size = plan_size (counts_of bytes) in
       rw (long, lt-leb n size (omega (arith, size_below)), lt-leb (length bytes) size (omega (arith, size_below))) refl
 
-  fault_front : n < length bytes → fault (take n bytes) (plan_of bytes) ≡ fault bytes (plan_of bytes)
-  unfolding fault plan_of
-  fault_front l =
-      let long = length-take-le n bytes (omega arith) in
-      let size = plan_size (counts_of bytes) in
-      rw (
-        long,
-        le-leb size n (omega (arith, size_below)),
-        le-leb size (length bytes) (omega (arith, size_below)),
-        lt-leb n size (omega (arith, size_below)),
-        lt-leb (length bytes) size (omega (arith, size_below)),
-      ) refl
-
 pub front_tells_all : FrontTellsAll
 front_tells_all bytes n small enough = elim (cases_lt n (length bytes)) [
   | inl l ↦ record { plan = plan_front bytes n small enough; early = early_front bytes n small enough l; late = late_front bytes n small enough l }
@@ -103,8 +90,5 @@ front_tells_all bytes n small enough = elim (cases_lt n (length bytes)) [
 ]
 
 pub tells_all : TellsAll
-unfolding parsed
-tells_all bytes n small enough = elim (cases_lt n (length bytes)) [
-  | inl l ↦ rw (plan_front bytes n small enough, fault_front bytes n small enough l)
-  | inr l ↦ rw (take_all n bytes l)
-]
+unfolding parsed fault
+tells_all bytes n small enough = let front = front_tells_all bytes n small enough in rw (front.plan, front.early, front.late) refl

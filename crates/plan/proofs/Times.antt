@@ -12,20 +12,11 @@ use Rattle.plan.specs.Lawful.{Lawful, FirstBroken}
 use Rattle.plan.specs.Timetable.{slot_of, begins, then_next, turn_after, OnTime, Rounds, Bounded, LawfulBounded}
 use Rattle.plan.proofs.Judged.{judged}
 
--- what an accepted plan says of time
+-- what a plan that keeps the rules says of time
 record Timely (p : Plan) : Type 0 where
   some : 0 < p.counts.slots
   lengths : (k : ℕ) → k < p.counts.slots → (slot p k).length ≤ 1000000
   budget : p.budget ≤ 100000
-
-timely : (bytes : List ℕ) (p : Plan) → parsed bytes ≡ Ok p → Timely p
-timely bytes p e =
-    let z = MatchResult-at_ok (λ p. Lawful bytes × (p ≡ plan_of bytes)) (λ d. FirstBroken bytes d) p e (judged bytes).cases in
-    rw z.1 (record {
-      some = omega (arith, z.0.counts Slots);
-      lengths = λ k l. (z.0.slots k l).2;
-      budget = z.0.budget.1;
-    })
 
 timely_lawful : (bytes : List ℕ) → Lawful bytes → Timely (plan_of bytes)
 timely_lawful bytes h = record {
@@ -33,6 +24,11 @@ timely_lawful bytes h = record {
   lengths = λ k l. (h.slots k l).2;
   budget = h.budget.1;
 }
+
+timely : (bytes : List ℕ) (p : Plan) → parsed bytes ≡ Ok p → Timely p
+timely bytes p e =
+    let z = MatchResult-at_ok (λ p. Lawful bytes × (p ≡ plan_of bytes)) (λ d. FirstBroken bytes d) p e (judged bytes).cases in
+    rw z.1 (timely_lawful bytes z.0)
 
 module _ (p : Plan) (t : Timely p) where
   turn_length : (n : ℕ) → (slot_of p n).length ≤ 1000000

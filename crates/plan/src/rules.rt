@@ -185,17 +185,12 @@ fn first_fault(bytes: &[u8]) -> Result<Plan, Refusal>
     ensures { result ≡ parsed bytes.now }
 {
     let plan = Plan::read(bytes);
-    let size = plan.counts.plan_size();
-    if bytes.len() < size {
-        return Err(Refusal::Truncated(bytes.len()));
-    }
+    plan.check_whole(bytes)?;
     plan.counts.check()?;
     plan.check_slots()?;
     plan.check_channels()?;
     plan.check_starts()?;
     plan.check_budget()?;
-    if bytes.len() > size {
-        return Err(Refusal::Surplus(size));
-    }
+    plan.check_end(bytes)?;
     Ok(plan)
 }

@@ -47,11 +47,10 @@ impl Plan {
     pub fn slot_of(&self, turn: u32) -> Slot
         ensures { result ≡ slot_of self.now turn }
     {
-        let slots = self.counts.slots as usize;
-        self.slot(if slots == 0 {
-            turn as usize
-        } else {
-            turn as usize % slots
-        })
+        let turn = Turn {
+            number: turn,
+            begin: 0,
+        };
+        turn.slot(self)
     }
 }

@@ -3,7 +3,7 @@
 
 use anyhow::anyhow;
 use hart::context::{Context, State};
-use hart::remembering::step_remembering;
+use hart::step::step_with;
 use isa::decoder::Decoder;
 use isa::register::Registers;
 use std::env;
@@ -49,7 +49,7 @@ fn run(words: &mut [u32], count: u64) -> u64 {
     let mut decoder = Decoder::new();
     let mut clock = 0u64;
     for _ in 0..count {
-        let cost = step_remembering(&mut context, &mut tables, words, 0, clock, &mut decoder);
+        let cost = step_with(&mut context, &mut tables, words, 0, clock, &mut decoder);
         clock = clock.wrapping_add(u64::from(cost));
     }
     clock

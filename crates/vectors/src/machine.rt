@@ -1,6 +1,6 @@
 // A hart with five frames of memory.
 use hart::context::{Context, State};
-use hart::remembering::step_remembering;
+use hart::step::step_with;
 use isa::decoder::Decoder;
 use isa::register::{Register, Registers};
 use tables::Tables;
@@ -112,7 +112,7 @@ impl Machine {
 
     // One instruction: its cycles.
     pub fn step(&mut self) -> u32 {
-        let cost = step_remembering(
+        let cost = step_with(
             &mut self.context,
             &mut self.tables,
             &mut self.words,

@@ -1,9 +1,9 @@
-// Recalling what a word decodes to.
+// Decoding a word anew, and recalling what it decodes to.
 ghost use Rattle.std.specs.Prelude.{◌≡◌};
 ghost use Rattle.isa.specs.Decoding.{decoded};
 ghost use Rattle.isa.specs.Remembered.{first_decoder, known, remembered};
 
-use super::{Decoder, ENTRIES, Known};
+use super::{Afresh, Decode, Decoder, ENTRIES, Known};
 use crate::decode::decode;
 use crate::instruction::Instruction;
 
@@ -43,5 +43,17 @@ impl Decoder {
         if self.known[at].word != word {
             self.known[at] = Known::new(word);
         }
+    }
+}
+
+impl Decode for Afresh {
+    fn instruction_of(&mut self, _number: u32, word: u32) -> Option<Instruction> {
+        decode(word)
+    }
+}
+
+impl Decode for Decoder {
+    fn instruction_of(&mut self, number: u32, word: u32) -> Option<Instruction> {
+        *self.recall(number, word)
     }
 }

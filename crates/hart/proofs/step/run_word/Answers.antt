@@ -2,10 +2,10 @@ use Rattle.std.proofs.Common.{rules}
 use Rattle.hart.specs.Core.{word_ran}
 use Rattle.hart.proofs.step.run_word.Goals as goal
 
-pub returns-in_default : goal.returns-in_default
+pub returns-in-Some : goal.returns-in-Some
 unfolding word_ran
-returns-in_default c = search rules
+returns-in-Some c = search rules
 
-pub returns : goal.returns
+pub returns-in-None : goal.returns-in-None
 unfolding word_ran
-returns c = search rules
+returns-in-None c = search rules

@@ -14,10 +14,10 @@ pub loop-clock-preserved : goal.loop-clock-preserved
 loop-clock-preserved c =
     let stop = c.args.begin + c.from.result in
     let x : Inside = record { context = c.loop-clock.context; tables = c.loop-clock.tables; words = c.loop-clock.words; clock = c.loop-clock.clock; instructions = c.loop-clock.instructions } in
-    let e = c.step_remembering.ensures in (
+    let e = c.step_with.ensures in (
       omega arith,
       omega arith,
-      turned c.args.root stop x c.step_remembering.new.context c.step_remembering.new.tables c.step_remembering.new.words c.from-clock.result _ c.loop-clock-test.true (sym c.if-is_ready.ensures)
+      turned c.args.root stop x c.step_with.new.context c.step_with.new.tables c.step_with.new.words c.from-clock.result _ c.loop-clock-test.true (sym c.if-is_ready.ensures)
           e.context e.tables e.words (c.from-clock.ensures ∙ e.cost) c.loop-clock.invariant.2,
     )
 

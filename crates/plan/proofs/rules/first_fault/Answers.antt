@@ -2,9 +2,9 @@ use Rattle.std.proofs.Common.{rules}
 use Rattle.plan.specs.Rules.{parsed, fault}
 use Rattle.plan.proofs.rules.first_fault.Goals as goal
 
-pub returns-then-bytes-size : goal.returns-then-bytes-size
+pub returns-in_err-check_whole : goal.returns-in_err-check_whole
 unfolding parsed fault
-returns-then-bytes-size c = search rules
+returns-in_err-check_whole c = search rules
 
 pub returns-in_err-check : goal.returns-in_err-check
 unfolding parsed fault
@@ -26,9 +26,9 @@ pub returns-in_err-check_budget : goal.returns-in_err-check_budget
 unfolding parsed fault
 returns-in_err-check_budget c = search rules
 
-pub returns-then-bytes-size-2 : goal.returns-then-bytes-size-2
+pub returns-in_err-check_end : goal.returns-in_err-check_end
 unfolding parsed fault
-returns-then-bytes-size-2 c = search rules
+returns-in_err-check_end c = search rules
 
 pub returns : goal.returns
 unfolding parsed fault

@@ -1,6 +1,6 @@
 use Rattle.std.proofs.Common.{rules}
 use Rattle.hart.specs.Core.{stepped, fetch_ran}
-use Rattle.hart.proofs.remembering.step_remembering.Goals as goal
+use Rattle.hart.proofs.step.step_with.Goals as goal
 
 pub returns-in-Stopped : goal.returns-in-Stopped
 unfolding stepped fetch_ran
