@@ -12,46 +12,16 @@ Partition 0 reads the cycle counter around a load and then waits; partition 1 co
 `make.py DIR` writes into another folder.
 """
 import os
-import struct
 import sys
 
-V, R, W, X, U, A, D = 1, 2, 4, 8, 16, 64, 128
-FRAME_WORDS = 1024
-
-
-def leaf(frame, permissions):
-    return frame << 10 | V | U | A | D | permissions
-
-
-def pointer(frame):
-    return frame << 10 | V
-
-
-def frame(words):
-    """A frame from {index: word}."""
-    return struct.pack("<1024I", *(words.get(k, 0) for k in range(FRAME_WORDS)))
+sys.dont_write_bytecode = True
+from layout import R, START, W, X, frame, image, leaf, plan, pointer, write  # noqa: E402
 
 
 def code(*words):
     return frame(dict(enumerate(words)))
 
 
-def plan(partitions, slots, channels, budget):
-    out = struct.pack("<BBBI", len(partitions), len(slots), len(channels), budget)
-    for root, start in partitions:
-        out += struct.pack("<HI", root, start)
-    for partition, length in slots:
-        out += struct.pack("<BI", partition, length)
-    for sender, receiver, source, target in channels:
-        out += struct.pack("<BBII", sender, receiver, source, target)
-    return out
-
-
-def image(frames):
-    return struct.pack("<H", len(frames)) + b"".join(frames)
-
-
-START = 16 * 4096
 PLAN = plan([(0, START), (3, START)], [(0, 200), (1, 128)], [], 800)
 IMAGE = image([
     frame({0: pointer(1)}),
@@ -68,14 +38,5 @@ IMAGE = image([
          0xFFDFF06F),  # jal     x0, -4
     frame({}),
 ])
-SLOTS = struct.pack("<I", 4)
 
-
-def main():
-    folder = sys.argv[1] if len(sys.argv) > 1 else os.path.dirname(os.path.abspath(__file__))
-    for name, content in (("lock.plan", PLAN), ("lock.image", IMAGE), ("lock.slots", SLOTS)):
-        with open(os.path.join(folder, name), "wb") as file:
-            file.write(content)
-
-
-main()
+write(sys.argv[1] if len(sys.argv) > 1 else os.path.dirname(os.path.abspath(__file__)), PLAN, IMAGE, 4)

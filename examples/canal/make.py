@@ -23,48 +23,17 @@ Each program has a root page table, a second-level table and its pages, of which
     frame 5  page 19, to the toll meter
 """
 import os
-import struct
 import sys
 
-sys.dont_write_bytecode = True
-from assembler import assemble  # noqa: E402
-
-V, R, W, X, U, A, D = 1, 2, 4, 8, 16, 64, 128
-FRAME_WORDS = 1024
 HERE = os.path.dirname(os.path.abspath(__file__))
+sys.dont_write_bytecode = True
+sys.path.insert(0, os.path.dirname(HERE))
+from assembler import assemble  # noqa: E402
+from layout import R, START, W, X, frame, image, leaf, plan, pointer, write  # noqa: E402
 
 GATES, PUMPS, TOLL = 0, 1, 2
-CODE_PAGE = 16
-START = CODE_PAGE * 4096
+CODE_PAGE = START // 4096
 FULL = 4
-
-
-def leaf(frame, permissions):
-    return frame << 10 | V | U | A | D | permissions
-
-
-def pointer(frame):
-    return frame << 10 | V
-
-
-def frame(words):
-    """A frame from {index: word}."""
-    return struct.pack("<1024I", *(words.get(k, 0) for k in range(FRAME_WORDS)))
-
-
-def plan(partitions, slots, channels, budget):
-    out = struct.pack("<BBBI", len(partitions), len(slots), len(channels), budget)
-    for root, start in partitions:
-        out += struct.pack("<HI", root, start)
-    for partition, length in slots:
-        out += struct.pack("<BI", partition, length)
-    for sender, receiver, source, target in channels:
-        out += struct.pack("<BBII", sender, receiver, source, target)
-    return out
-
-
-def image(frames):
-    return struct.pack("<H", len(frames)) + b"".join(frames)
 
 
 def program(root, name, pages):
@@ -88,15 +57,5 @@ IMAGE = image(
     + program(6, "pumps.s", [(R | W, {0: FULL}), (R, {})])
     + program(11, "toll.s", [(R | W, {}), (R, {})])
 )
-SLOTS = struct.pack("<I", 15)
 
-
-def main():
-    folder = sys.argv[1] if len(sys.argv) > 1 else HERE
-    for name, content in (("lock.plan", PLAN), ("lock.image", IMAGE), ("lock.slots", SLOTS)):
-        with open(os.path.join(folder, name), "wb") as file:
-            file.write(content)
-
-
-if __name__ == "__main__":
-    main()
+write(sys.argv[1] if len(sys.argv) > 1 else HERE, PLAN, IMAGE, 15)

@@ -2,14 +2,12 @@
 #![tactic(auto)]
 
 mod bench;
-mod row;
-mod rows;
 mod word;
 
 use anyhow::anyhow;
 use bench::{Bench, START};
-use row::{Roles, Row};
-use rows::*;
+use rv32ui::row::{Roles, Row};
+use rv32ui::rows::*;
 use std::io;
 use word::*;
 

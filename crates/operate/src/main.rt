@@ -1,14 +1,11 @@
 // operate PLAN IMAGE SLOTS, operate PLAN IMAGE --slots N: prints a line for each slot of a run, as it goes.
 #![tactic(auto)]
 
-mod line;
-
 use console::arguments::{argument, at_most, is_word};
 use console::files::read_up_to;
 use console::problem::{Problem, Program, VERSION};
 use isa::decoder::Decoder;
 use kernel::report::Report;
-use line::Line;
 use separation::face::Kernel;
 use separation::run::run as run_slots;
 use std::io::{BufWriter, Write};
@@ -89,7 +86,7 @@ fn print_slots(
         let Some(report) = kernel.run_slot(words, &mut decoder) else {
             break;
         };
-        out.write_all(Line::new(&report).bytes())?;
+        writeln!(out, "{report}")?;
     }
     out.flush()
 }

@@ -1,4 +1,6 @@
 // One vector of the suite.
+ghost use Rattle.std.specs.Prelude.{◌≡◌};
+ghost use Rattle.rv32ui.specs.Roles.{roles_of};
 
 // Which registers a vector names: the two sources and the target apart, or one of them also in another role, or register 0 in one.
 #[derive(Clone, Copy)]
@@ -22,7 +24,9 @@ pub struct Roles {
 }
 
 impl Place {
-    pub fn roles(self) -> Roles {
+    pub fn roles(self) -> Roles
+        ensures { result ≡ roles_of self }
+    {
         let (target, first, second) = match self {
             Place::Apart => (14, 1, 2),
             Place::FirstIsTarget => (1, 1, 2),
