@@ -1,13 +1,14 @@
 // Decoding a word anew, and recalling what it decodes to.
 ghost use Rattle.std.specs.Prelude.{◌≡◌};
 ghost use Rattle.isa.specs.Decoding.{decoded};
-ghost use Rattle.isa.specs.Remembered.{first_decoder, known, remembered};
+ghost use Rattle.isa.specs.Remembered.{first_decoder, known};
 
 use super::{Afresh, Decode, Decoder, ENTRIES, Known};
 use crate::decode::decode;
 use crate::instruction::Instruction;
 
 impl Known {
+    #[tactic(auto, using(crate::proofs::Recalling::one_known))]
     fn new(word: u32) -> Self
         ensures { result ≡ known word }
     {
@@ -31,18 +32,11 @@ impl Decoder {
     pub fn recall(&mut self, number: u32, word: u32) -> &Option<Instruction>
         ensures answer { result.now ≡ decoded word }
     {
-        self.remember(number, word);
-        &self.known[(number / 4) as usize % ENTRIES].instruction
-    }
-
-    // Sees to it that the place of the number has the word.
-    fn remember(&mut self, number: u32, word: u32)
-        ensures after { self.new ≡ remembered self.old number word }
-    {
-        let at = (number / 4) as usize % ENTRIES;
-        if self.known[at].word != word {
-            self.known[at] = Known::new(word);
+        let known = &mut self.known[(number / 4) as usize % ENTRIES];
+        if known.word != word {
+            *known = Known::new(word);
         }
+        &known.instruction
     }
 }
 
