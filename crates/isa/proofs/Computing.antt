@@ -1,10 +1,10 @@
 -- Laws of the operations and of the conditions.
-use Rattle.std.proofs.Common.{◌≡◌, ℕ, zero, suc, ◌+◌, ◌-◌, ◌*◌, ◌/◌, ◌%◌, ◌^◌, ◌<◌, true, false, not, T, eqb, ltb, ℤ, pos, negsuc, ◌+ℤ◌, ◌-ℤ◌, ◌*ℤ◌, neg_ℤ, ◌≤ℤ◌, ◌<ℤ◌, Decides, sym, refl, ap, ◌∙◌, subst, inl, inr, mod-eq_of_lt, mul_comm, mul-zero, mul-suc, mul-add, div-le_self, arith}
-use lib.Signed.{lt_z, lt_z_yes, lt_z_no, shr_z}
+use Rattle.std.proofs.Common.{◌≡◌, ℕ, zero, suc, ◌+◌, ◌-◌, ◌*◌, ◌/◌, ◌%◌, ◌^◌, ◌<◌, true, false, not, ℤ, pos, negsuc, ◌+ℤ◌, ◌-ℤ◌, ◌*ℤ◌, neg_ℤ, ◌≤ℤ◌, ◌<ℤ◌, Decides, refl, ap, ◌∙◌, inl, inr, mod-eq_of_lt, mul_comm, mul-zero, mul-suc, mul-add, div-le_self, arith}
+use lib.Signed.{lt_z, shr_z}
 use Rattle.std.proofs.lemmas.Int.{ints}
 use Rattle.std.proofs.lemmas.Nat.{div-add-mod', mod_below, pow_pos}
 use Rattle.std.proofs.lemmas.Bool.{cases_lt, cond-true, cond-false}
-use Rattle.std.proofs.lemmas.Bool.Decides.{nat_tests, Decides-eqb, Decides-ltb, Decides-not, Decides-like}
+use Rattle.std.proofs.lemmas.Bool.Decides.{nat_tests}
 use Rattle.words.specs.Bits.{signed}
 use Rattle.isa.specs.declared.instruction.Operation.TheVariants.{ShiftRightArithmetic}
 use Rattle.words.proofs.Signs.{signs}
@@ -30,21 +30,21 @@ not_less : (x y : ℤ) → y ≤ℤ x → lt_z x y ≡ false
 not_less x y h = grind (arith, ints)
 
 decides_less : (x y : ℤ) → Decides (lt_z x y) (x <ℤ y)
-decides_less x y = (λ e. lt_z_yes (subst T (sym e) tt), less x y)
+decides_less x y = grind (arith, ints)
 
 decides_not_less : (x y : ℤ) → Decides (not (lt_z x y)) (y ≤ℤ x)
-decides_not_less x y = (λ e. lt_z_no (subst T (sym e) tt), λ h. ap not (not_less x y h))
+decides_not_less x y = grind (arith, ints)
 
 pub orders : Orders
 orders a b = record {
   slt = (λ h. cond-true _ 1 0 (less (signed 32 a) (signed 32 b) h), λ h. cond-false _ 1 0 (not_less (signed 32 a) (signed 32 b) h));
   sltu = (λ h. grind (arith, nat_tests), λ h. grind (arith, nat_tests));
-  beq = Decides-eqb a b;
-  bne = Decides-not (eqb a b) (Decides-eqb a b);
+  beq = grind (arith, nat_tests);
+  bne = grind (arith, nat_tests);
   blt = decides_less (signed 32 a) (signed 32 b);
   bge = decides_not_less (signed 32 a) (signed 32 b);
-  bltu = Decides-ltb a b;
-  bgeu = Decides-like (not (ltb a b)) (λ n. omega arith) (λ l h. omega arith) (Decides-not (ltb a b) (Decides-ltb a b));
+  bltu = grind (arith, nat_tests);
+  bgeu = grind (arith, nat_tests);
 }
 
 -- a quotient that is rounded down, times its divisor
