@@ -41,6 +41,8 @@ pub(crate) fn funct7(word: u32) -> u32
     bits(word, 25, 7)
 }
 
+// The immediates: each shift stands where the format draws the part. One loop over tables of parts would ask a bound on their
+// widths and an invariant, for four sums of shifts that need no proof.
 pub(crate) fn i_immediate(word: u32) -> i32
     ensures { result ≡ i_immediate word }
 {
