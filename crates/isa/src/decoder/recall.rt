@@ -1,7 +1,7 @@
 // Decoding a word anew, and recalling what it decodes to.
-ghost use Rattle.std.specs.Prelude.{◌≡◌};
+ghost use Rattle.std.specs.Prelude.{◌≡◌, ◌<◌, slice_index_or};
 ghost use Rattle.isa.specs.Decoding.{decoded};
-ghost use Rattle.isa.specs.Remembered.{first_decoder, known};
+ghost use Rattle.isa.specs.Remembered.{first_decoder, known, place_of, remembered};
 
 use super::{Afresh, Decode, Decoder, ENTRIES, Known};
 use crate::decode::decode;
@@ -32,12 +32,28 @@ impl Decoder {
     pub fn recall(&mut self, number: u32, word: u32) -> &Option<Instruction>
         ensures answer { result.now ≡ decoded word }
     {
-        let known = &mut self.known[(number / 4) as usize % ENTRIES];
-        if known.word != word {
-            *known = Known::new(word);
-        }
-        &known.instruction
+        self.remember(number, word);
+        &self.known[place_of(number)].instruction
     }
+
+    // Sees to it that the place of the number has the word.
+    fn remember(&mut self, number: u32, word: u32)
+        ensures after { self.new ≡ remembered self.old number word }
+        ensures word { (slice_index_or self.new.known (place_of number) (known 0)).word ≡ word }
+    {
+        let at = place_of(number);
+        if self.known[at].word != word {
+            self.known[at] = Known::new(word);
+        }
+    }
+}
+
+// The place that remembers a word of this number.
+fn place_of(number: u32) -> usize
+    ensures place { result ≡ place_of number }
+    ensures within { result < 1024 }
+{
+    (number / 4) as usize % ENTRIES
 }
 
 impl Decode for Afresh {
