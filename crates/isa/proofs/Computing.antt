@@ -1,27 +1,20 @@
 -- Laws of the operations and of the conditions.
-use Rattle.std.proofs.Common.{◌≡◌, ℕ, zero, suc, ◌+◌, ◌-◌, ◌*◌, ◌/◌, ◌%◌, ◌^◌, ◌<◌, true, false, not, ℤ, pos, negsuc, ◌+ℤ◌, ◌-ℤ◌, ◌*ℤ◌, neg_ℤ, ◌≤ℤ◌, ◌<ℤ◌, Decides, refl, ap, ◌∙◌, inl, inr, mod-eq_of_lt, mul_comm, mul-zero, mul-suc, mul-add, div-le_self, arith}
+use Rattle.std.proofs.Common.{◌≡◌, ℕ, ◌*◌, ◌/◌, ◌%◌, ◌^◌, ◌<◌, true, false, not, ℤ, pos, negsuc, ◌+ℤ◌, ◌*ℤ◌, neg_ℤ, ◌≤ℤ◌, ◌<ℤ◌, Decides, mod-eq_of_lt, mul_comm, mul-suc, mul-add, div-le_self, arith}
 use lib.Signed.{lt_z, shr_z}
 use Rattle.std.proofs.lemmas.Int.{ints}
 use Rattle.std.proofs.lemmas.Nat.{div-add-mod', mod_below, pow_pos}
-use Rattle.std.proofs.lemmas.Bool.{cases_lt, cond-true, cond-false}
+use Rattle.std.proofs.lemmas.Bool.{cond-true, cond-false}
 use Rattle.std.proofs.lemmas.Bool.Decides.{nat_tests}
 use Rattle.words.specs.Bits.{signed}
 use Rattle.isa.specs.declared.instruction.Operation.TheVariants.{ShiftRightArithmetic}
 use Rattle.words.proofs.Signs.{signs}
 use Rattle.isa.specs.Encoding.{Within}
 use Rattle.isa.proofs.Complement.{signed_of_bits}
-use Rattle.isa.specs.Meaning.{remainder, computed}
+use Rattle.isa.specs.Meaning.{computed}
 use Rattle.isa.specs.Laws.{Undoes, Orders, RoundsDown}
 
--- the remainder of a difference of words
-difference : (a b : ℕ) → a < 2 ^ 32 → b < 2 ^ 32 → remainder 32 (pos a -ℤ pos b) ≡ (a + (2 ^ 32 - b)) % 2 ^ 32
-difference a b ha hb = elim (cases_lt a b) [
-  | inl l ↦ let e : pos a -ℤ pos b ≡ negsuc (b - a - 1) = omega (arith, ints) in ap (remainder 32) e ∙ omega arith
-  | inr l ↦ let e : pos a -ℤ pos b ≡ pos (a - b) = omega (arith, ints) in ap (remainder 32) e ∙ omega arith
-]
-
 pub undoes : Undoes
-undoes a b ha hb = (difference ((a + b) % 2 ^ 32) b (omega arith) hb ∙ omega arith, omega (arith, difference a b ha hb))
+undoes a b ha hb = grind (arith, ints)
 
 less : (x y : ℤ) → x <ℤ y → lt_z x y ≡ true
 less x y h = grind (arith, ints)
@@ -53,8 +46,7 @@ floor_low (pos n) m h = omega (arith, ints, div-add-mod' n m, mul_comm m (n / m)
 floor_low (negsuc n) m h = omega (arith, ints, div-add-mod' n m, mod_below n m h, mul_comm m (n / m), mul-suc m (n / m))
 
 times_minus : (m q : ℕ) → pos m *ℤ neg_ℤ (pos q) ≡ neg_ℤ (pos (m * q))
-times_minus m zero = rw mul-zero
-times_minus m (suc q) = refl
+times_minus m q = grind (arith, ints)
 
 floor_high : (z : ℤ) (m : ℕ) → 0 < m → z <ℤ (pos m *ℤ (shr_z z m +ℤ pos 1))
 floor_high (pos n) m h = omega (arith, ints, div-add-mod' n m, mod_below n m h, mul_comm m (n / m), mul-add m (n / m) 1)

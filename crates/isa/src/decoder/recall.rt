@@ -7,6 +7,7 @@ use super::{Afresh, Decode, Decoder, ENTRIES, Known};
 use crate::decode::decode;
 use crate::instruction::Instruction;
 
+// A constructor and no `From`: it decodes.
 impl Known {
     #[tactic(auto, using(crate::proofs::Recalling::one_known))]
     fn new(word: u32) -> Self
