@@ -29,8 +29,7 @@ bits_of_signed k n some h =
     (rw none at (low_bits 0 k n (omega arith) (rw none h))) ∙ mod-eq_of_lt h
 
 pub bits_below : (k : ℕ) (z : ℤ) → remainder k z < 2 ^ k
-bits_below k (pos n) = mod_below n (2 ^ k) (pow_pos k)
-bits_below k (negsuc n) = omega (arith, pow_pos k)
+bits_below k z = grind (arith, ints, pow_pos k, mod_below)
 
 pub signed_of_bits : (k : ℕ) (z : ℤ) → 0 < k → Within k z → signed k (remainder k z) ≡ z
 signed_of_bits zero z some h = absurd (omega arith)

@@ -1,27 +1,20 @@
 -- Laws of the operations and of the conditions.
-use Rattle.std.proofs.Common.{◌≡◌, ℕ, zero, suc, ◌+◌, ◌-◌, ◌*◌, ◌/◌, ◌%◌, ◌^◌, ◌<◌, true, false, not, T, eqb, ltb, ℤ, pos, negsuc, ◌+ℤ◌, ◌-ℤ◌, ◌*ℤ◌, neg_ℤ, ◌≤ℤ◌, ◌<ℤ◌, Decides, sym, refl, ap, ◌∙◌, subst, inl, inr, mod-eq_of_lt, mul_comm, mul-zero, mul-suc, mul-add, div-le_self, arith}
-use lib.Signed.{lt_z, lt_z_yes, lt_z_no, shr_z}
+use Rattle.std.proofs.Common.{◌≡◌, ℕ, ◌*◌, ◌/◌, ◌%◌, ◌^◌, ◌<◌, true, false, not, ℤ, pos, negsuc, ◌+ℤ◌, ◌*ℤ◌, neg_ℤ, ◌≤ℤ◌, ◌<ℤ◌, Decides, mod-eq_of_lt, mul_comm, mul-suc, mul-add, div-le_self, arith}
+use lib.Signed.{lt_z, shr_z}
 use Rattle.std.proofs.lemmas.Int.{ints}
 use Rattle.std.proofs.lemmas.Nat.{div-add-mod', mod_below, pow_pos}
-use Rattle.std.proofs.lemmas.Bool.{cases_lt, cond-true, cond-false}
-use Rattle.std.proofs.lemmas.Bool.Decides.{nat_tests, Decides-eqb, Decides-ltb, Decides-not, Decides-like}
+use Rattle.std.proofs.lemmas.Bool.{cond-true, cond-false}
+use Rattle.std.proofs.lemmas.Bool.Decides.{nat_tests}
 use Rattle.words.specs.Bits.{signed}
 use Rattle.isa.specs.declared.instruction.Operation.TheVariants.{ShiftRightArithmetic}
 use Rattle.words.proofs.Signs.{signs}
 use Rattle.isa.specs.Encoding.{Within}
 use Rattle.isa.proofs.Complement.{signed_of_bits}
-use Rattle.isa.specs.Meaning.{remainder, computed}
+use Rattle.isa.specs.Meaning.{computed}
 use Rattle.isa.specs.Laws.{Undoes, Orders, RoundsDown}
 
--- the remainder of a difference of words
-difference : (a b : ℕ) → a < 2 ^ 32 → b < 2 ^ 32 → remainder 32 (pos a -ℤ pos b) ≡ (a + (2 ^ 32 - b)) % 2 ^ 32
-difference a b ha hb = elim (cases_lt a b) [
-  | inl l ↦ let e : pos a -ℤ pos b ≡ negsuc (b - a - 1) = omega (arith, ints) in ap (remainder 32) e ∙ omega arith
-  | inr l ↦ let e : pos a -ℤ pos b ≡ pos (a - b) = omega (arith, ints) in ap (remainder 32) e ∙ omega arith
-]
-
 pub undoes : Undoes
-undoes a b ha hb = (difference ((a + b) % 2 ^ 32) b (omega arith) hb ∙ omega arith, omega (arith, difference a b ha hb))
+undoes a b ha hb = grind (arith, ints)
 
 less : (x y : ℤ) → x <ℤ y → lt_z x y ≡ true
 less x y h = grind (arith, ints)
@@ -30,21 +23,21 @@ not_less : (x y : ℤ) → y ≤ℤ x → lt_z x y ≡ false
 not_less x y h = grind (arith, ints)
 
 decides_less : (x y : ℤ) → Decides (lt_z x y) (x <ℤ y)
-decides_less x y = (λ e. lt_z_yes (subst T (sym e) tt), less x y)
+decides_less x y = grind (arith, ints)
 
 decides_not_less : (x y : ℤ) → Decides (not (lt_z x y)) (y ≤ℤ x)
-decides_not_less x y = (λ e. lt_z_no (subst T (sym e) tt), λ h. ap not (not_less x y h))
+decides_not_less x y = grind (arith, ints)
 
 pub orders : Orders
 orders a b = record {
   slt = (λ h. cond-true _ 1 0 (less (signed 32 a) (signed 32 b) h), λ h. cond-false _ 1 0 (not_less (signed 32 a) (signed 32 b) h));
   sltu = (λ h. grind (arith, nat_tests), λ h. grind (arith, nat_tests));
-  beq = Decides-eqb a b;
-  bne = Decides-not (eqb a b) (Decides-eqb a b);
+  beq = grind (arith, nat_tests);
+  bne = grind (arith, nat_tests);
   blt = decides_less (signed 32 a) (signed 32 b);
   bge = decides_not_less (signed 32 a) (signed 32 b);
-  bltu = Decides-ltb a b;
-  bgeu = Decides-like (not (ltb a b)) (λ n. omega arith) (λ l h. omega arith) (Decides-not (ltb a b) (Decides-ltb a b));
+  bltu = grind (arith, nat_tests);
+  bgeu = grind (arith, nat_tests);
 }
 
 -- a quotient that is rounded down, times its divisor
@@ -53,8 +46,7 @@ floor_low (pos n) m h = omega (arith, ints, div-add-mod' n m, mul_comm m (n / m)
 floor_low (negsuc n) m h = omega (arith, ints, div-add-mod' n m, mod_below n m h, mul_comm m (n / m), mul-suc m (n / m))
 
 times_minus : (m q : ℕ) → pos m *ℤ neg_ℤ (pos q) ≡ neg_ℤ (pos (m * q))
-times_minus m zero = rw mul-zero
-times_minus m (suc q) = refl
+times_minus m q = grind (arith, ints)
 
 floor_high : (z : ℤ) (m : ℕ) → 0 < m → z <ℤ (pos m *ℤ (shr_z z m +ℤ pos 1))
 floor_high (pos n) m h = omega (arith, ints, div-add-mod' n m, mod_below n m h, mul_comm m (n / m), mul-add m (n / m) 1)

@@ -1,5 +1,5 @@
 -- Decoding is exact, and lawful instructions have words of their own.
-use Rattle.std.proofs.Common.{◌≡◌, ℕ, Some, None, Option, sym, refl, ◌∙◌}
+use Rattle.std.proofs.Common.{rules, ◌≡◌, ℕ, Some, None, Option, sym, refl, ◌∙◌}
 use Rattle.isa.specs.declared.instruction.Instruction.{Instruction}
 use Rattle.isa.specs.Decoding.{decoded}
 use Rattle.isa.specs.Encoding.{encoding, Lawful}
@@ -20,7 +20,7 @@ injective i j l m e = some_is (sym (back (encoding i) i l refl).1 ∙ (back (enc
 -- a word with no instruction, once decoding has answered
 refused : (w : ℕ) (o : Option Instruction) → ((i : Instruction) → o ≡ Some i → Of w i) → ((i : Instruction) → Lawful i → encoding i ≡ w → ⊥) → o ≡ None
 refused w None of alone = refl
-refused w (Some i) of alone = let o = of i refl in absurd (alone i o.1 o.0)
+refused w (Some i) of alone = let o = of i refl in search rules
 
 pub illegal : Illegal
 illegal w h = record {

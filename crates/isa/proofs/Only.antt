@@ -1,5 +1,5 @@
 -- Only the word of a lawful instruction decodes to it.
-use Rattle.std.proofs.Common.{◌≡◌, ℕ, ◌+◌, ◌*◌, ◌%◌, ◌^◌, ◌<◌, Bool, true, false, cond, ◌&&◌, eqb, List, pos, Some, None, Option, sym, refl, ap, ◌∙◌, subst, inl, inr, arith}
+use Rattle.std.proofs.Common.{rules, ◌≡◌, ℕ, ◌+◌, ◌*◌, ◌%◌, ◌^◌, ◌<◌, Bool, true, cond, ◌&&◌, eqb, List, pos, Some, None, Option, sym, ap, ◌∙◌, inl, inr, arith}
 use Rattle.std.proofs.lemmas.Int.{ints}
 use Rattle.std.proofs.lemmas.Bool.{eqb-true, and_parts}
 use Rattle.words.specs.Bits.{field, signed}
@@ -18,7 +18,7 @@ use Rattle.isa.specs.Tables.{numbered, Listed, Major, opcode_of, majors, conditi
 use Rattle.isa.specs.Decoding.{and_then, constant, shift, in_major, decoded}
 use Rattle.isa.specs.Encoding.{encoding, Within, Lawful}
 use Rattle.isa.proofs.Complement.{bits_of_signed, low_bits}
-use Rattle.isa.proofs.Rows.{some_is, none_is, and_some, found, plain, operation_row}
+use Rattle.isa.proofs.Rows.{and_some, found, plain, operation_row}
 use Rattle.isa.proofs.Words.{r_word, i_word, s_word, b_word, u_word, j_word}
 
 -- the word of a lawful instruction
@@ -106,7 +106,7 @@ module _ (w : ℕ) (h : w < 2 ^ 32) where
 -- the row that a word was found in
 module _ (w : ℕ) (i : Instruction) (h : w < 2 ^ 32) where
   is : {j : Instruction} → Of w j → Some j ≡ Some i → Of w i
-  is o e = subst (Of w) (some_is e) o
+  is o e = search rules
 
   by_row : {A : Type 0} (number : A → ℕ) (rows : List A) (n : ℕ) (make : A → Instruction) →
       ((a : A) → n ≡ number a → Listed number rows a → Of w (make a)) → and_then (numbered number rows n) (λ a. Some (make a)) ≡ Some i → Of w i
@@ -116,8 +116,7 @@ module _ (w : ℕ) (i : Instruction) (h : w < 2 ^ 32) where
       is (each r.0 f (ap (numbered number rows) (sym f) ∙ r.1)) r.2
 
   by_test : (t : Bool) (o : Option Instruction) → (t ≡ true → o ≡ Some i → Of w i) → cond t o None ≡ Some i → Of w i
-  by_test true o each e = each refl e
-  by_test false o each e = none_is e
+  by_test t o each e = search rules
 
   by_major : (m : Major) → opcode w ≡ opcode_of m → in_major w m ≡ Some i → Of w i
   by_major Major.LUI o = is (lui_of w h o)

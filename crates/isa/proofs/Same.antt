@@ -1,12 +1,12 @@
 -- Registers are below 32; two with one number are one, and so are register files with the same words.
-use Rattle.std.proofs.Common.{◌≡◌, ℕ, ◌<◌, T, ltb, List, ap, subst, ltb→lt}
+use Rattle.std.proofs.Common.{◌≡◌, ℕ, ◌<◌, T, ltb, List, ap, subst, rules}
 use lib.Dec.{T_prop}
 use Rattle.isa.specs.declared.register.Register.{Register}
 use Rattle.isa.specs.declared.register.Registers.{Registers}
 use Rattle.isa.specs.Registers.{formed_words}
 
 pub below : (r : Register) → r.index < 32
-below r = ltb→lt r.index 32 r.named
+below r = search rules
 
 pub same_register : (a b : Register) → a.index ≡ b.index → a ≡ b
 same_register a b e =

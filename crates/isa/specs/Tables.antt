@@ -1,15 +1,21 @@
 -- The numbers of the manual's opcode tables. Each number stands once: decoding looks it up, encoding writes it.
-use Rattle.std.specs.Prelude.{◌≡◌, ℕ, ◌+◌, ◌*◌, cond, List, [], ◌∷◌, Some, None, Option, ◌==◌}
+use Rattle.std.specs.Prelude.{◌≡◌, ℕ, ◌+◌, ◌*◌, cond, List, [], ◌∷◌, Some, None, Option, Result, ◌==◌, nat_lt}
+use Rattle.std.specs.Result.{result_ok}
 use Rattle.isa.specs.declared.instruction.Operation.{Operation}
 use Rattle.isa.specs.declared.instruction.Condition.{Condition}
 use Rattle.isa.specs.declared.instruction.LoadWidth.{LoadWidth}
 use Rattle.isa.specs.declared.instruction.StoreWidth.{StoreWidth}
 use Rattle.isa.specs.declared.instruction.Counter.{Counter}
+use Rattle.isa.specs.declared.numbers.Illegal.{Illegal}
 
 -- the row of a table that has a number
 abbrev pub numbered : {A : Type 0} → (A → ℕ) → List A → ℕ → Option A
 numbered number [] n = None
 numbered number (a ∷ rows) n = cond (n == number a) (Some a) (numbered number rows n)
+
+-- what a number of a table is read as: its row, an error where it has none
+abbrev pub ReadAs : {A : Type 0} → (A → ℕ) → List A → ℕ → Result A Illegal → Type 0
+ReadAs number rows n read = result_ok read ≡ numbered number rows n
 
 -- a row that is found under its own number
 abbrev pub Listed : {A : Type 0} → (A → ℕ) → List A → A → Type 0
@@ -110,6 +116,10 @@ abbrev pub operations : List Operation
 operations =
     Operation.Add ∷ Operation.Sub ∷ Operation.ShiftLeft ∷ Operation.LessThan ∷ Operation.LessThanUnsigned ∷ Operation.Xor
     ∷ Operation.ShiftRight ∷ Operation.ShiftRightArithmetic ∷ Operation.Or ∷ Operation.And ∷ []
+
+-- what a funct7 and a funct3 are read as; 8 and above are no funct3
+abbrev pub ReadsOperation : ℕ × ℕ → Result Operation Illegal → Type 0
+ReadsOperation (f7, f3) read = result_ok read ≡ cond (nat_lt f3 8) (numbered operation_number operations (f7 * 8 + f3)) None
 
 -- the operations that take a constant of twelve bits, told by funct3 alone, and those that take a shift by 0 to 31
 abbrev pub constants : List Operation

@@ -24,7 +24,7 @@ impl Operation {
     }
 }
 
-// The word of an instruction's constant: its remainder by 2 ^ 32.
+// The word of an instruction's constant: its remainder by 2 ^ 32. It says `cast_unsigned` in the words of `compute`'s definition.
 pub fn word_of(constant: i32) -> u32
     ensures { result ≡ remainder 32 constant }
 {

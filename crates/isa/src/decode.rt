@@ -1,100 +1,33 @@
 // From words to instructions. Every word that the tables do not have is illegal.
-ghost use Rattle.std.specs.Prelude.{◌≡◌, ◌+◌, ◌*◌, ◌<◌};
+ghost use Rattle.std.specs.Prelude.{◌≡◌};
+ghost use Rattle.std.specs.Result.{result_ok};
 ghost use Rattle.words.specs.First.{or_else};
-ghost use Rattle.isa.specs.Tables.{condition_number, conditions, counter_number, counters, load_number, loads, numbered, operation_number, operations, store_number, stores};
 ghost use Rattle.isa.specs.Decoding.{branch, constant, decoded, jalr, load, read_counter, register_register, shift, store};
 
 use crate::fields::*;
 use crate::instruction::*;
+use crate::numbers::Illegal;
 use words::bits::bits;
 
-fn condition_of(number: u32) -> Option<Condition>
-    ensures { result ≡ numbered condition_number conditions number }
-{
-    match number {
-        0 => Some(Condition::Equal),
-        1 => Some(Condition::NotEqual),
-        4 => Some(Condition::Less),
-        5 => Some(Condition::GreaterEqual),
-        6 => Some(Condition::LessUnsigned),
-        7 => Some(Condition::GreaterEqualUnsigned),
-        _ => None,
-    }
-}
-
-fn load_width(number: u32) -> Option<LoadWidth>
-    ensures { result ≡ numbered load_number loads number }
-{
-    match number {
-        0 => Some(LoadWidth::Byte),
-        1 => Some(LoadWidth::Half),
-        2 => Some(LoadWidth::Word),
-        4 => Some(LoadWidth::ByteUnsigned),
-        5 => Some(LoadWidth::HalfUnsigned),
-        _ => None,
-    }
-}
-
-fn store_width(number: u32) -> Option<StoreWidth>
-    ensures { result ≡ numbered store_number stores number }
-{
-    match number {
-        0 => Some(StoreWidth::Byte),
-        1 => Some(StoreWidth::Half),
-        2 => Some(StoreWidth::Word),
-        _ => None,
-    }
-}
-
-fn counter_of(number: u32) -> Option<Counter>
-    ensures { result ≡ numbered counter_number counters number }
-{
-    match number {
-        0xc00 => Some(Counter::Cycle),
-        0xc01 => Some(Counter::Time),
-        0xc80 => Some(Counter::CycleHigh),
-        _ => None,
-    }
-}
-
-fn operation_of(funct7: u32, funct3: u32) -> Option<Operation>
-    requires { funct3 < 8 }
-    ensures { result ≡ numbered operation_number operations (funct7 * 8 + funct3) }
-{
-    match (funct7, funct3) {
-        (0, 0) => Some(Operation::Add),
-        (0x20, 0) => Some(Operation::Sub),
-        (0, 1) => Some(Operation::ShiftLeft),
-        (0, 2) => Some(Operation::LessThan),
-        (0, 3) => Some(Operation::LessThanUnsigned),
-        (0, 4) => Some(Operation::Xor),
-        (0, 5) => Some(Operation::ShiftRight),
-        (0x20, 5) => Some(Operation::ShiftRightArithmetic),
-        (0, 6) => Some(Operation::Or),
-        (0, 7) => Some(Operation::And),
-        _ => None,
-    }
-}
-
-fn jalr(word: u32) -> Option<Instruction>
-    ensures { result ≡ jalr word }
+fn jalr(word: u32) -> Result<Instruction, Illegal>
+    ensures { result_ok result ≡ jalr word }
 {
     if funct3(word) == 0 {
-        Some(Instruction::Jalr {
+        Ok(Instruction::Jalr {
             rd: rd(word),
             base: rs1(word),
             offset: i_immediate(word),
         })
     } else {
-        None
+        Err(Illegal)
     }
 }
 
-fn branch(word: u32) -> Option<Instruction>
-    ensures { result ≡ branch word }
+fn branch(word: u32) -> Result<Instruction, Illegal>
+    ensures { result_ok result ≡ branch word }
 {
-    let condition = condition_of(funct3(word))?;
-    Some(Instruction::Branch {
+    let condition = Condition::try_from(funct3(word))?;
+    Ok(Instruction::Branch {
         condition,
         left: rs1(word),
         right: rs2(word),
@@ -102,11 +35,11 @@ fn branch(word: u32) -> Option<Instruction>
     })
 }
 
-fn load(word: u32) -> Option<Instruction>
-    ensures { result ≡ load word }
+fn load(word: u32) -> Result<Instruction, Illegal>
+    ensures { result_ok result ≡ load word }
 {
-    let width = load_width(funct3(word))?;
-    Some(Instruction::Load {
+    let width = LoadWidth::try_from(funct3(word))?;
+    Ok(Instruction::Load {
         width,
         rd: rd(word),
         base: rs1(word),
@@ -114,11 +47,11 @@ fn load(word: u32) -> Option<Instruction>
     })
 }
 
-fn store(word: u32) -> Option<Instruction>
-    ensures { result ≡ store word }
+fn store(word: u32) -> Result<Instruction, Illegal>
+    ensures { result_ok result ≡ store word }
 {
-    let width = store_width(funct3(word))?;
-    Some(Instruction::Store {
+    let width = StoreWidth::try_from(funct3(word))?;
+    Ok(Instruction::Store {
         width,
         base: rs1(word),
         source: rs2(word),
@@ -127,8 +60,8 @@ fn store(word: u32) -> Option<Instruction>
 }
 
 // An operation with a constant. The shifts are by 0 to 31; what stands above those five bits tells the right shifts apart.
-fn register_immediate(word: u32) -> Option<Instruction>
-    ensures { result ≡ or_else (constant word) (shift word) }
+fn register_immediate(word: u32) -> Result<Instruction, Illegal>
+    ensures { result_ok result ≡ or_else (constant word) (shift word) }
 {
     let amount = bits(word, 20, 5) as i32;
     let (operation, value) = match (funct3(word), bits(word, 20, 12)) {
@@ -141,9 +74,9 @@ fn register_immediate(word: u32) -> Option<Instruction>
         (5, 0x400..=0x41f) => (Operation::ShiftRightArithmetic, amount),
         (6, _) => (Operation::Or, i_immediate(word)),
         (7, _) => (Operation::And, i_immediate(word)),
-        _ => return None,
+        _ => return Err(Illegal),
     };
-    Some(Instruction::RegisterImmediate {
+    Ok(Instruction::RegisterImmediate {
         operation,
         rd: rd(word),
         source: rs1(word),
@@ -151,11 +84,11 @@ fn register_immediate(word: u32) -> Option<Instruction>
     })
 }
 
-fn register_register(word: u32) -> Option<Instruction>
-    ensures { result ≡ register_register word }
+fn register_register(word: u32) -> Result<Instruction, Illegal>
+    ensures { result_ok result ≡ register_register word }
 {
-    let operation = operation_of(funct7(word), funct3(word))?;
-    Some(Instruction::RegisterRegister {
+    let operation = Operation::try_from((funct7(word), funct3(word)))?;
+    Ok(Instruction::RegisterRegister {
         operation,
         rd: rd(word),
         left: rs1(word),
@@ -164,17 +97,48 @@ fn register_register(word: u32) -> Option<Instruction>
 }
 
 // CSRRS of a counter from register 0, which sets nothing.
-fn read_counter(word: u32) -> Option<Instruction>
-    ensures { result ≡ read_counter word }
+fn read_counter(word: u32) -> Result<Instruction, Illegal>
+    ensures { result_ok result ≡ read_counter word }
 {
     if funct3(word) == 2 && bits(word, 15, 5) == 0 {
-        let counter = counter_of(bits(word, 20, 12))?;
-        Some(Instruction::ReadCounter {
+        let counter = Counter::try_from(bits(word, 20, 12))?;
+        Ok(Instruction::ReadCounter {
             rd: rd(word),
             counter,
         })
     } else {
-        None
+        Err(Illegal)
+    }
+}
+
+impl TryFrom<u32> for Instruction {
+    type Error = Illegal;
+
+    ghost try_from_gives = { λ word r. result_ok r ≡ decoded word };
+
+    fn try_from(word: u32) -> Result<Self, Illegal> {
+        match opcode(word) {
+            0x37 => Ok(Instruction::Lui {
+                rd: rd(word),
+                value: u_immediate(word),
+            }),
+            0x17 => Ok(Instruction::Auipc {
+                rd: rd(word),
+                value: u_immediate(word),
+            }),
+            0x6f => Ok(Instruction::Jal {
+                rd: rd(word),
+                offset: j_immediate(word),
+            }),
+            0x67 => jalr(word),
+            0x63 => branch(word),
+            0x03 => load(word),
+            0x23 => store(word),
+            0x13 => register_immediate(word),
+            0x33 => register_register(word),
+            0x73 => read_counter(word),
+            _ => Err(Illegal),
+        }
     }
 }
 
@@ -182,26 +146,5 @@ fn read_counter(word: u32) -> Option<Instruction>
 pub fn decode(word: u32) -> Option<Instruction>
     ensures { result ≡ decoded word }
 {
-    match opcode(word) {
-        0x37 => Some(Instruction::Lui {
-            rd: rd(word),
-            value: u_immediate(word),
-        }),
-        0x17 => Some(Instruction::Auipc {
-            rd: rd(word),
-            value: u_immediate(word),
-        }),
-        0x6f => Some(Instruction::Jal {
-            rd: rd(word),
-            offset: j_immediate(word),
-        }),
-        0x67 => jalr(word),
-        0x63 => branch(word),
-        0x03 => load(word),
-        0x23 => store(word),
-        0x13 => register_immediate(word),
-        0x33 => register_register(word),
-        0x73 => read_counter(word),
-        _ => None,
-    }
+    Instruction::try_from(word).ok()
 }

@@ -12,13 +12,13 @@ pub trait Decode {
 }
 
 // Decodes every word anew.
-#[derive(Clone, Copy)]
+#[derive(Clone, Copy, PartialEq, Eq, Debug, Default)]
 pub struct Afresh;
 
 const ENTRIES: usize = 1024;
 
 // A word, and what it decodes to.
-#[derive(Clone, Copy)]
+#[derive(Clone, Copy, PartialEq, Eq, Debug)]
 struct Known {
     word: u32,
     instruction: Option<Instruction>,
@@ -26,7 +26,7 @@ struct Known {
 }
 
 // Remembers words and what they decode to.
-#[derive(Clone, Copy)]
+#[derive(Clone, Copy, PartialEq, Eq, Debug)]
 pub struct Decoder {
     known: [Known; ENTRIES],
 }

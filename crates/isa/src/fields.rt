@@ -1,6 +1,5 @@
 // The fields of an instruction word and its immediates.
-ghost use Rattle.std.specs.Prelude.{◌≡◌, ◌/◌, ◌^◌, ◌<◌};
-ghost use Rattle.isa.specs.Registers.{register};
+ghost use Rattle.std.specs.Prelude.{◌≡◌};
 ghost use Rattle.isa.specs.Formats.{b_immediate, funct3, funct7, i_immediate, j_immediate, opcode, rd, rs1, rs2, s_immediate, u_immediate};
 
 use crate::register::Register;
@@ -12,18 +11,10 @@ pub(crate) fn opcode(word: u32) -> u32
     bits(word, 0, 7)
 }
 
-// The register that five bits of a word name, from bit `low` on.
-fn register_at(word: u32, low: u32) -> Register
-    requires { low < 32 }
-    ensures { result ≡ register (word / 2 ^ low) }
-{
-    Register::new(word >> low)
-}
-
 pub(crate) fn rd(word: u32) -> Register
     ensures { result ≡ rd word }
 {
-    register_at(word, 7)
+    Register::new(word >> 7)
 }
 
 pub(crate) fn funct3(word: u32) -> u32
@@ -35,13 +26,13 @@ pub(crate) fn funct3(word: u32) -> u32
 pub(crate) fn rs1(word: u32) -> Register
     ensures { result ≡ rs1 word }
 {
-    register_at(word, 15)
+    Register::new(word >> 15)
 }
 
 pub(crate) fn rs2(word: u32) -> Register
     ensures { result ≡ rs2 word }
 {
-    register_at(word, 20)
+    Register::new(word >> 20)
 }
 
 pub(crate) fn funct7(word: u32) -> u32
@@ -50,6 +41,8 @@ pub(crate) fn funct7(word: u32) -> u32
     bits(word, 25, 7)
 }
 
+// The immediates: each shift stands where the format draws the part. One loop over tables of parts would ask a bound on their
+// widths and an invariant, for four sums of shifts that need no proof.
 pub(crate) fn i_immediate(word: u32) -> i32
     ensures { result ≡ i_immediate word }
 {

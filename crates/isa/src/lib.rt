@@ -8,4 +8,5 @@ pub mod decoder;
 mod fields;
 pub mod instruction;
 pub mod laws;
+pub mod numbers;
 pub mod register;

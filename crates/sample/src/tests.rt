@@ -49,27 +49,27 @@ fn memory(heap: Global, layout: Layout, frames: usize) -> Result<Vec<u32>, Alloc
     Ok(words)
 }
 
-// Number and place of the refusal, or 0 and the frame that the channel's receiver has.
-fn verdict(words: &[u32]) -> (u8, usize) {
+// The frame that the channel's receiver has, or number and place of the refusal.
+fn verdict(words: &[u32]) -> Result<u32, (u8, usize)> {
     match judge(&PLAN, words) {
         Ok(accepted) => {
             let [ends, ..] = accepted.ends;
-            (0, ends.receiver as usize)
+            Ok(ends.receiver)
         }
-        Err(refusal) => (refusal.number(), refusal.place()),
+        Err(refusal) => Err((refusal.number(), refusal.place())),
     }
 }
 
 #[test]
 fn layouts(rt: HostRuntime) -> Result<(), Fail> {
-    // table, code, mailbox, its flags, frames; number and place
-    for (table, code, mailbox, flags, frames, number, place) in [
-        (4, 5, 7, READS, 8, 0, 7),
-        (5, 4, 8, READS, 9, 0, 8),
-        (4, 2, 7, READS, 8, 8, 1),
-        (4, 5, 7, WRITES, 8, 5, 0),
-        (4, 5, 7, READS, 7, 11, 0),
-        (4, 4, 7, READS, 8, 8, 1),
+    // table, code, mailbox, its flags, frames; the verdict
+    for (table, code, mailbox, flags, frames, expected) in [
+        (4, 5, 7, READS, 8, Ok(7)),
+        (5, 4, 8, READS, 9, Ok(8)),
+        (4, 2, 7, READS, 8, Err((8, 1))),
+        (4, 5, 7, WRITES, 8, Err((5, 0))),
+        (4, 5, 7, READS, 7, Err((11, 0))),
+        (4, 4, 7, READS, 8, Err((8, 1))),
     ] {
         let layout = Layout {
             table,
@@ -78,7 +78,7 @@ fn layouts(rt: HostRuntime) -> Result<(), Fail> {
             flags,
         };
         let words = memory(rt.alloc(), layout, frames)?;
-        assert_eq!(rt; verdict(&words), (number, place));
+        assert_eq!(rt; verdict(&words), expected);
     }
     Ok(())
 }

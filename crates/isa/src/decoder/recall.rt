@@ -1,13 +1,15 @@
 // Decoding a word anew, and recalling what it decodes to.
-ghost use Rattle.std.specs.Prelude.{◌≡◌};
+ghost use Rattle.std.specs.Prelude.{◌≡◌, ◌<◌, slice_index_or};
 ghost use Rattle.isa.specs.Decoding.{decoded};
-ghost use Rattle.isa.specs.Remembered.{first_decoder, known, remembered};
+ghost use Rattle.isa.specs.Remembered.{first_decoder, known, place_of, remembered};
 
 use super::{Afresh, Decode, Decoder, ENTRIES, Known};
 use crate::decode::decode;
 use crate::instruction::Instruction;
 
+// A constructor and no `From`: it decodes.
 impl Known {
+    #[tactic(auto, using(crate::proofs::Recalling::one_known))]
     fn new(word: u32) -> Self
         ensures { result ≡ known word }
     {
@@ -32,18 +34,27 @@ impl Decoder {
         ensures answer { result.now ≡ decoded word }
     {
         self.remember(number, word);
-        &self.known[(number / 4) as usize % ENTRIES].instruction
+        &self.known[place_of(number)].instruction
     }
 
     // Sees to it that the place of the number has the word.
     fn remember(&mut self, number: u32, word: u32)
         ensures after { self.new ≡ remembered self.old number word }
+        ensures word { (slice_index_or self.new.known (place_of number) (known 0)).word ≡ word }
     {
-        let at = (number / 4) as usize % ENTRIES;
+        let at = place_of(number);
         if self.known[at].word != word {
             self.known[at] = Known::new(word);
         }
     }
+}
+
+// The place that remembers a word of this number.
+fn place_of(number: u32) -> usize
+    ensures place { result ≡ place_of number }
+    ensures within { result < 1024 }
+{
+    (number / 4) as usize % ENTRIES
 }
 
 impl Decode for Afresh {

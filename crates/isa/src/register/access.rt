@@ -1,13 +1,14 @@
 // Reading and writing a register.
-ghost use Rattle.std.specs.Prelude.{◌≡◌, ◌%◌};
-ghost use Rattle.isa.specs.Registers.{blank, held, written};
+ghost use Rattle.std.specs.Prelude.{◌≡◌};
+ghost use Rattle.isa.specs.Registers.{blank, held, register, written};
 
 use super::{Register, Registers};
 
 impl Register {
     // The register that the low five bits of a number name.
+    #[tactic(auto, using(crate::proofs::Same::same_register))]
     pub fn new(number: u32) -> Register
-        ensures { result.index ≡ number % 32 }
+        ensures { result ≡ register number }
     {
         Register {
             index: (number % 32) as u8,
@@ -30,6 +31,7 @@ impl Registers {
     }
 
     // A write to register 0 is lost.
+    #[tactic(auto, using(crate::proofs::Same::same_registers))]
     pub fn write(&mut self, register: Register, value: u32)
         ensures { self.new ≡ written self.old register value }
     {
