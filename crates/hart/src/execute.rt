@@ -48,6 +48,7 @@ fn branch(context: &mut Context, tables: &mut Tables, taken: bool, target: u32) 
     cost
 }
 
+#[tactic(auto, unfolding(crate::specs::Core::load_ran))]
 fn load(
     context: &mut Context,
     tables: &mut Tables,
@@ -69,23 +70,18 @@ fn load(
     let found = tables
         .tlb
         .find(words, root, address / PAGE_BYTES, Access::Load);
-    if !found.permitted {
+    let Some(frame) = found.frame else {
         context.stop(Cause::LoadFault);
         return found.cost;
-    }
+    };
     let offset = address % PAGE_BYTES;
-    let cost = tables.cache.access(
-        Place {
-            frame: found.frame,
-            offset,
-        },
-        false,
-    );
-    let word = frames::read(words, found.frame, offset / 4);
+    let cost = tables.cache.access(Place { frame, offset }, false);
+    let word = frames::read(words, frame, offset / 4);
     context.set(register, memory::load(width, word, address));
     found.cost + cost
 }
 
+#[tactic(auto, unfolding(crate::specs::Core::store_ran))]
 fn store(
     context: &mut Context,
     tables: &mut Tables,
@@ -108,22 +104,16 @@ fn store(
     let found = tables
         .tlb
         .find(words, root, address / PAGE_BYTES, Access::Store);
-    if !found.permitted {
+    let Some(frame) = found.frame else {
         context.stop(Cause::StoreFault);
         return found.cost;
-    }
+    };
     let offset = address % PAGE_BYTES;
-    let cost = tables.cache.access(
-        Place {
-            frame: found.frame,
-            offset,
-        },
-        true,
-    );
-    let old = frames::read(words, found.frame, offset / 4);
+    let cost = tables.cache.access(Place { frame, offset }, true);
+    let old = frames::read(words, frame, offset / 4);
     frames::write(
         words,
-        found.frame,
+        frame,
         offset / 4,
         memory::store(width, old, address, value),
     );

@@ -36,6 +36,7 @@ pub fn step(
 }
 
 // The same step with a decoder, which is no part of the machine: with any decoder all is the same.
+#[tactic(auto, unfolding(crate::specs::Core::stepped, crate::specs::Core::fetch_ran))]
 pub fn step_with<D: Decode>(
     context: &mut Context,
     tables: &mut Tables,
@@ -58,11 +59,11 @@ pub fn step_with<D: Decode>(
         .tlb
         .find(words, root, context.pc / PAGE_BYTES, Access::Fetch);
     let cost = INSTRUCTION + found.cost;
-    if !found.permitted {
+    let Some(frame) = found.frame else {
         context.stop(Cause::FetchFault);
         return cost;
-    }
-    let word = frames::read(words, found.frame, context.pc % PAGE_BYTES / 4);
+    };
+    let word = frames::read(words, frame, context.pc % PAGE_BYTES / 4);
     cost + run_word(word, context, tables, words, root, clock, decoder)
 }
 
