@@ -1,6 +1,6 @@
 -- The core does what the architecture does.
-use Rattle.std.proofs.Common.{◌≡◌, ℕ, ◌/◌, ◌%◌, true, false, List, Some, None, Ok, Err, Option, sym, refl, ◌∙◌, inl, inr}
-use Rattle.std.proofs.lemmas.Bool.{cases_Bool, cond-true, cond-false}
+use Rattle.std.proofs.Common.{◌≡◌, ℕ, ◌/◌, ◌%◌, ◌⊎◌, List, Some, None, Ok, Err, Option, sym, refl, ap, ◌∙◌, inl, inr}
+use Rattle.std.proofs.lemmas.Bool.{cases_Bool}
 use Rattle.isa.specs.declared.register.Register.{Register}
 use Rattle.isa.specs.declared.instruction.Instruction.{Instruction}
 use Rattle.isa.specs.declared.instruction.LoadWidth.{LoadWidth}
@@ -11,7 +11,7 @@ use Rattle.paging.specs.declared.access.Access.TheVariants.{Fetch, Load, Store}
 use Rattle.paging.specs.Accesses.{page_fault}
 use Rattle.paging.specs.Walks.{translated}
 use Rattle.tables.specs.declared.Tables.{Tables}
-use Rattle.tables.specs.Honest.{Honest, reached}
+use Rattle.tables.specs.Honest.{Honest, reached, reached_in}
 use Rattle.tables.proofs.Truth.{honesty}
 use Rattle.words.specs.Frames.{word}
 use Rattle.hart.specs.declared.context.State.{State}
@@ -23,6 +23,11 @@ use Rattle.hart.specs.Core.{Ran, executed, fetch_ran, word_ran, decoded_ran, loa
 use Rattle.hart.specs.Architecture.{Left, architecture, program_does, does, fetch_does, instruction_does}
 use Rattle.hart.specs.Laws.{Agreement}
 
+-- a look-up finds a frame, or none
+pub found_or_not : (o : Option ℕ) → ((frame : ℕ) × (o ≡ Some frame)) ⊎ (o ≡ None)
+found_or_not None = inr refl
+found_or_not (Some frame) = inl (frame, refl)
+
 -- what a step leaves of program and memory
 record Same (r : Ran) (l : Left) : Type 0 where
   context : r.context ≡ l.context
@@ -32,19 +37,19 @@ module _ (t : Tables) (ws : List ℕ) (root : ℕ) (h : Honest t.tlb ws root) wh
   truth : (address : ℕ) (access : Access) → reached (looked_up t ws root address access) address access ≡ translated ws root address access
   truth address access = (honesty.find t.tlb ws root (address / 4096) access h).translates address refl
 
-  -- where the look-up permits the access, translation gives its place, and else the fault
-  pub granted : (address : ℕ) (access : Access) → (looked_up t ws root address access).permitted ≡ true →
-      translated ws root address access ≡ Ok (place_in (looked_up t ws root address access).frame address)
-  granted address access e = sym (truth address access) ∙ cond-true _ _ _ e
+  -- where the look-up finds a frame, translation gives its place, and else the fault
+  pub granted : (address : ℕ) (access : Access) (frame : ℕ) → (looked_up t ws root address access).frame ≡ Some frame →
+      translated ws root address access ≡ Ok (place_in frame address)
+  granted address access frame e = sym (truth address access) ∙ ap (λ o. reached_in o address access) e
 
-  denied : (address : ℕ) (access : Access) → (looked_up t ws root address access).permitted ≡ false → translated ws root address access ≡ Err (page_fault access)
-  denied address access e = sym (truth address access) ∙ cond-false _ _ _ e
+  denied : (address : ℕ) (access : Access) → (looked_up t ws root address access).frame ≡ None → translated ws root address access ≡ Err (page_fault access)
+  denied address access e = sym (truth address access) ∙ ap (λ o. reached_in o address access) e
 
   load_same : (x : Context) (width : LoadWidth) (rd : Register) (address : ℕ) → Same (load_ran x t ws root width rd address) (does x ws root (loads width rd address))
   unfolding load_ran
   load_same x width rd address = elim (cases_Bool (is_aligned (load_bytes width) address)) [
-    | inl a ↦ elim (cases_Bool (looked_up t ws root address Load).permitted) [
-      | inl e ↦ rw (a, e, granted address Load e) (record { context = refl; words = refl })
+    | inl a ↦ elim (found_or_not (looked_up t ws root address Load).frame) [
+      | inl f ↦ rw (a, f.1, granted address Load f.0 f.1) (record { context = refl; words = refl })
       | inr e ↦ rw (a, e, denied address Load e) (record { context = refl; words = refl })
     ]
     | inr a ↦ rw a (record { context = refl; words = refl })
@@ -53,8 +58,8 @@ module _ (t : Tables) (ws : List ℕ) (root : ℕ) (h : Honest t.tlb ws root) wh
   store_same : (x : Context) (width : StoreWidth) (address value : ℕ) → Same (store_ran x t ws root width address value) (does x ws root (stores width address value))
   unfolding store_ran
   store_same x width address value = elim (cases_Bool (is_aligned (store_bytes width) address)) [
-    | inl a ↦ elim (cases_Bool (looked_up t ws root address Store).permitted) [
-      | inl e ↦ rw (a, e, granted address Store e) (record { context = refl; words = refl })
+    | inl a ↦ elim (found_or_not (looked_up t ws root address Store).frame) [
+      | inl f ↦ rw (a, f.1, granted address Store f.0 f.1) (record { context = refl; words = refl })
       | inr e ↦ rw (a, e, denied address Store e) (record { context = refl; words = refl })
     ]
     | inr a ↦ rw a (record { context = refl; words = refl })
@@ -75,11 +80,11 @@ module _ (t : Tables) (ws : List ℕ) (root : ℕ) (h : Honest t.tlb ws root) wh
 module _ (t : Tables) (ws : List ℕ) (root : ℕ) (h : Honest t.tlb ws root) (x : Context) (clock : ℕ) where
   fetch_same : Same (fetch_ran x t ws root clock) (fetch_does x ws root clock (translated ws root x.pc Fetch))
   unfolding fetch_ran word_ran
-  fetch_same = elim (cases_Bool (looked_up t ws root x.pc Fetch).permitted) [
-    | inl e ↦
+  fetch_same = elim (found_or_not (looked_up t ws root x.pc Fetch).frame) [
+    | inl f ↦
         let later = (honesty.find t.tlb ws root (x.pc / 4096) Fetch h).still in
-        let rest = decoded_same (after_lookup t ws root x.pc Fetch) ws root later x clock (decoded (word ws (looked_up t ws root x.pc Fetch).frame (x.pc % 4096 / 4))) in
-        rw (e, granted t ws root h x.pc Fetch e) (record { context = rest.context; words = rest.words })
+        let rest = decoded_same (after_lookup t ws root x.pc Fetch) ws root later x clock (decoded (word ws f.0 (x.pc % 4096 / 4))) in
+        rw (f.1, granted t ws root h x.pc Fetch f.0 f.1) (record { context = rest.context; words = rest.words })
     | inr e ↦ rw (e, denied t ws root h x.pc Fetch e) (record { context = refl; words = refl })
   ]
 

@@ -1,5 +1,5 @@
 -- A TLB that answers as a walk would keeps doing so.
-use Rattle.std.proofs.Common.{◌≡◌, ℕ, ◌/◌, ◌%◌, ◌<◌, true, List, Some, None, Option, sym, refl, subst, inl, inr, arith}
+use Rattle.std.proofs.Common.{◌≡◌, ℕ, ◌/◌, ◌%◌, ◌<◌, List, Some, None, Option, sym, refl, subst, inl, inr, arith}
 use Rattle.std.proofs.lemmas.Bool.{cases_Bool}
 use Rattle.words.specs.Frames.{word}
 use Rattle.isa.specs.declared.register.Register.{Register}
@@ -23,7 +23,7 @@ use Rattle.hart.specs.Memory.{is_aligned, load_bytes, store_bytes}
 use Rattle.hart.specs.Execution.{Doing, sets, jumps, branches, loads, stores, doing, misses_target}
 use Rattle.hart.specs.Core.{Ran, executed, fetch_ran, word_ran, decoded_ran, load_ran, store_ran, stepped, stepped_by, looked_up, after_lookup, place_in}
 use Rattle.hart.specs.Laws.{StaysHonest, TablesApart}
-use Rattle.hart.proofs.Agreeing.{granted}
+use Rattle.hart.proofs.Agreeing.{found_or_not, granted}
 
 abbrev Kept : ℕ → Ran → Type 0
 Kept root r = Honest r.tables.tlb r.words root
@@ -33,17 +33,17 @@ module _ (ws : List ℕ) (root : ℕ) (apart : TablesApart ws root) where
     still : (address : ℕ) (access : Access) → Honest (after_lookup t ws root address access).tlb ws root
     still address access = (honesty.find t.tlb ws root (address / 4096) access h).still
 
-    -- the frame of an access that is permitted is one that the tables name
-    reached_named : (address : ℕ) (access : Access) → (looked_up t ws root address access).permitted ≡ true → Names ws root (looked_up t ws root address access).frame
-    reached_named address access e =
-        let r = (translates ws root address access (translated ws root address access) refl).reaches (place_in (looked_up t ws root address access).frame address) (granted t ws root h address access e) in
+    -- the frame that a look-up finds is one that the tables name
+    reached_named : (address : ℕ) (access : Access) (frame : ℕ) → (looked_up t ws root address access).frame ≡ Some frame → Names ws root frame
+    reached_named address access frame e =
+        let r = (translates ws root address access (translated ws root address access) refl).reaches (place_in frame address) (granted t ws root h address access frame e) in
         subst (Names ws root) (sym r.frame) (leaves_named ws root r.page r.leaf r.maps)
 
     load_kept : (x : Context) (width : LoadWidth) (rd : Register) (address : ℕ) → Kept root (load_ran x t ws root width rd address)
     unfolding load_ran
     load_kept x width rd address = elim (cases_Bool (is_aligned (load_bytes width) address)) [
-      | inl a ↦ elim (cases_Bool (looked_up t ws root address Load).permitted) [
-        | inl e ↦ rw (a, e) (still address Load)
+      | inl a ↦ elim (found_or_not (looked_up t ws root address Load).frame) [
+        | inl f ↦ rw (a, f.1) (still address Load)
         | inr e ↦ rw (a, e) (still address Load)
       ]
       | inr a ↦ rw a h
@@ -52,12 +52,11 @@ module _ (ws : List ℕ) (root : ℕ) (apart : TablesApart ws root) where
     store_kept : (x : Context) (width : StoreWidth) (address value : ℕ) → Kept root (store_ran x t ws root width address value)
     unfolding store_ran
     store_kept x width address value = elim (cases_Bool (is_aligned (store_bytes width) address)) [
-      | inl a ↦ elim (cases_Bool (looked_up t ws root address Store).permitted) [
-        | inl e ↦
-            let frame = (looked_up t ws root address Store).frame in
+      | inl a ↦ elim (found_or_not (looked_up t ws root address Store).frame) [
+        | inl f ↦
             let inside : address % 4096 / 4 < 1024 = omega arith in
-            rw (a, e) (honesty.moves (after_lookup t ws root address Store).tlb ws _ root
-            (writes_apart ws root frame (address % 4096 / 4) _ inside (apart frame (reached_named address Store e))) (still address Store))
+            rw (a, f.1) (honesty.moves (after_lookup t ws root address Store).tlb ws _ root
+            (writes_apart ws root f.0 (address % 4096 / 4) _ inside (apart f.0 (reached_named address Store f.0 f.1))) (still address Store))
         | inr e ↦ rw (a, e) (still address Store)
       ]
       | inr a ↦ rw a h
@@ -78,8 +77,8 @@ module _ (ws : List ℕ) (root : ℕ) (apart : TablesApart ws root) where
   module _ (t : Tables) (h : Honest t.tlb ws root) (x : Context) (clock : ℕ) where
     fetch_kept : Kept root (fetch_ran x t ws root clock)
     unfolding fetch_ran word_ran
-    fetch_kept = elim (cases_Bool (looked_up t ws root x.pc Fetch).permitted) [
-      | inl e ↦ rw e (decoded_kept (after_lookup t ws root x.pc Fetch) (still t h x.pc Fetch) x clock (decoded (word ws (looked_up t ws root x.pc Fetch).frame (x.pc % 4096 / 4))))
+    fetch_kept = elim (found_or_not (looked_up t ws root x.pc Fetch).frame) [
+      | inl f ↦ rw f.1 (decoded_kept (after_lookup t ws root x.pc Fetch) (still t h x.pc Fetch) x clock (decoded (word ws f.0 (x.pc % 4096 / 4))))
       | inr e ↦ rw e (still t h x.pc Fetch)
     ]
 

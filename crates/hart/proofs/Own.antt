@@ -25,7 +25,7 @@ use Rattle.hart.specs.Memory.{is_aligned, load_bytes, store_bytes}
 use Rattle.hart.specs.Execution.{Doing, sets, jumps, branches, loads, stores, doing}
 use Rattle.hart.specs.Core.{Ran, executed, fetch_ran, word_ran, decoded_ran, load_ran, store_ran, stepped, stepped_by, looked_up, after_lookup, place_in}
 use Rattle.hart.specs.Laws.{SameOwn, SeesOwn}
-use Rattle.hart.proofs.Agreeing.{granted}
+use Rattle.hart.proofs.Agreeing.{found_or_not, granted}
 
 -- a frame that an access reaches: the tables name it, and it is lent
 record OwnFrame (ws : List ℕ) (root frame : ℕ) : Type 0 where
@@ -33,9 +33,9 @@ record OwnFrame (ws : List ℕ) (root frame : ℕ) : Type 0 where
   room : frame * 1024 + 1024 ≤ length ws
 
 own_frame : (t : Tables) (ws : List ℕ) (root : ℕ) → Honest t.tlb ws root → (address : ℕ) (access : Access) →
-    (looked_up t ws root address access).permitted ≡ true → OwnFrame ws root (looked_up t ws root address access).frame
-own_frame t ws root h address access e =
-    let r = (translates ws root address access (translated ws root address access) refl).reaches (place_in (looked_up t ws root address access).frame address) (granted t ws root h address access e) in
+    (frame : ℕ) → (looked_up t ws root address access).frame ≡ Some frame → OwnFrame ws root frame
+own_frame t ws root h address access frame e =
+    let r = (translates ws root address access (translated ws root address access) refl).reaches (place_in frame address) (granted t ws root h address access frame e) in
     let there = r.maps.frame_there.lent in
     record {
       named = subst (Names ws root) (sym r.frame) (leaves_named ws root r.page r.leaf r.maps);
@@ -78,10 +78,10 @@ module _ (ws vs : List ℕ) (root : ℕ) (own : SameOwn ws vs root) where
     load_alike : (x : Context) (width : LoadWidth) (rd : Register) (address : ℕ) → AlikeRan (load_ran x t vs root width rd address) (load_ran x t ws root width rd address)
     unfolding load_ran
     load_alike x width rd address = elim (cases_Bool (is_aligned (load_bytes width) address)) [
-      | inl a ↦ elim (cases_Bool (looked_up t ws root address Load).permitted) [
-        | inl e ↦
-            let o = own_frame t ws root h address Load e in
-            rw (walks (address / 4096), a, e, own.named (looked_up t ws root address Load).frame (address % 4096 / 4) o.named (here address))
+      | inl a ↦ elim (found_or_not (looked_up t ws root address Load).frame) [
+        | inl f ↦
+            let o = own_frame t ws root h address Load f.0 f.1 in
+            rw (walks (address / 4096), a, f.1, own.named f.0 (address % 4096 / 4) o.named (here address))
             (record { context = refl; tables = refl; cost = refl; words = same_words })
         | inr e ↦ rw (walks (address / 4096), a, e) (record { context = refl; tables = refl; cost = refl; words = same_words })
       ]
@@ -91,12 +91,11 @@ module _ (ws vs : List ℕ) (root : ℕ) (own : SameOwn ws vs root) where
     store_alike : (x : Context) (width : StoreWidth) (address value : ℕ) → AlikeRan (store_ran x t vs root width address value) (store_ran x t ws root width address value)
     unfolding store_ran
     store_alike x width address value = elim (cases_Bool (is_aligned (store_bytes width) address)) [
-      | inl a ↦ elim (cases_Bool (looked_up t ws root address Store).permitted) [
-        | inl e ↦
-            let frame = (looked_up t ws root address Store).frame in
-            let o = own_frame t ws root h address Store e in
-            rw (walks (address / 4096), a, e, own.named frame (address % 4096 / 4) o.named (here address))
-            (record { context = refl; tables = refl; cost = refl; words = same_written frame (address % 4096 / 4) _ o (here address) })
+      | inl a ↦ elim (found_or_not (looked_up t ws root address Store).frame) [
+        | inl f ↦
+            let o = own_frame t ws root h address Store f.0 f.1 in
+            rw (walks (address / 4096), a, f.1, own.named f.0 (address % 4096 / 4) o.named (here address))
+            (record { context = refl; tables = refl; cost = refl; words = same_written f.0 (address % 4096 / 4) _ o (here address) })
         | inr e ↦ rw (walks (address / 4096), a, e) (record { context = refl; tables = refl; cost = refl; words = same_words })
       ]
       | inr a ↦ rw a (record { context = refl; tables = refl; cost = refl; words = same_words })
@@ -117,13 +116,12 @@ module _ (ws vs : List ℕ) (root : ℕ) (own : SameOwn ws vs root) where
   module _ (t : Tables) (h : Honest t.tlb ws root) (x : Context) (clock : ℕ) where
     fetch_alike : AlikeRan (fetch_ran x t vs root clock) (fetch_ran x t ws root clock)
     unfolding fetch_ran word_ran
-    fetch_alike = elim (cases_Bool (looked_up t ws root x.pc Fetch).permitted) [
-      | inl e ↦
-          let frame = (looked_up t ws root x.pc Fetch).frame in
-          let o = own_frame t ws root h x.pc Fetch e in
+    fetch_alike = elim (found_or_not (looked_up t ws root x.pc Fetch).frame) [
+      | inl f ↦
+          let o = own_frame t ws root h x.pc Fetch f.0 f.1 in
           let later = (honesty.find t.tlb ws root (x.pc / 4096) Fetch h).still in
-          let rest = decoded_alike (after_lookup t ws root x.pc Fetch) later x clock (decoded (word ws frame (x.pc % 4096 / 4))) in
-          rw (walks (x.pc / 4096), e, own.named frame (x.pc % 4096 / 4) o.named (here t h x.pc))
+          let rest = decoded_alike (after_lookup t ws root x.pc Fetch) later x clock (decoded (word ws f.0 (x.pc % 4096 / 4))) in
+          rw (walks (x.pc / 4096), f.1, own.named f.0 (x.pc % 4096 / 4) o.named (here t h x.pc))
           (record { context = rest.context; tables = rest.tables; cost = ap (λ c. 1 + (looked_up t ws root x.pc Fetch).cost + c) rest.cost; words = rest.words })
       | inr e ↦ rw (walks (x.pc / 4096), e) (record { context = refl; tables = refl; cost = refl; words = same_words })
     ]

@@ -8,11 +8,12 @@ use Rattle.tables.specs.declared.Tables.{Tables}
 use Rattle.hart.specs.declared.context.Context.{Context}
 use Rattle.hart.specs.Memory.{is_aligned, load_bytes}
 use Rattle.hart.specs.Core.{load_ran, looked_up}
+use Rattle.hart.proofs.Agreeing.{found_or_not}
 
 -- a load changes no word
 pub load_words : (x : Context) (t : Tables) (ws : List ℕ) (root : ℕ) (width : LoadWidth) (rd : Register) (address : ℕ) → (load_ran x t ws root width rd address).words ≡ ws
 unfolding load_ran
 load_words x t ws root width rd address = elim (cases_Bool (is_aligned (load_bytes width) address)) [
-  | inl a ↦ elim (cases_Bool (looked_up t ws root address Load).permitted) [ inl e ↦ simp (a, e) | inr e ↦ simp (a, e) ]
+  | inl a ↦ elim (found_or_not (looked_up t ws root address Load).frame) [ inl f ↦ simp (a, f.1) | inr e ↦ simp (a, e) ]
   | inr a ↦ simp a
 ]

@@ -1,8 +1,9 @@
 -- What a step keeps, with any tables.
-use Rattle.std.proofs.Common.{◌≡◌, ℕ, ◌+◌, ◌/◌, ◌%◌, ◌≤◌, Bool, true, false, eqb, ◌⊎◌, List, length, ℤ, Some, None, Option, refl, ◌∙◌, inl, inr, arith}
+use Rattle.std.proofs.Common.{◌≡◌, ℕ, ◌+◌, ◌/◌, ◌%◌, ◌≤◌, Bool, true, false, eqb, ◌⊎◌, List, length, ℤ, Some, None, Option, unwrap_or, sym, refl, ap, ◌∙◌, inl, inr, arith}
 use Rattle.std.proofs.lemmas.List.{length-set, length-replicate}
 use Rattle.std.proofs.lemmas.Bool.{cases_Bool}
 use Rattle.words.specs.Costs.{highest, highest_branch, instruction, misprediction, miss, page_walk, write_back}
+use Rattle.words.specs.Frames.{word}
 use Rattle.isa.specs.declared.register.Register.{Register}
 use Rattle.isa.specs.declared.instruction.Condition.{Condition}
 use Rattle.isa.specs.declared.instruction.Instruction.{Instruction}
@@ -31,6 +32,7 @@ use Rattle.hart.specs.Memory.{is_aligned, load_bytes, store_bytes}
 use Rattle.hart.specs.Execution.{Doing, sets, jumps, branches, loads, stores, doing, misses_target, stopped}
 use Rattle.hart.specs.Core.{Ran, executed, fetch_ran, word_ran, decoded_ran, load_ran, store_ran, ran, stepped, stepped_by, looked_up, after_lookup, place_in}
 use Rattle.hart.specs.Steps.{StayWhole, Steps, Stops, WholeTables, fetched}
+use Rattle.hart.proofs.Agreeing.{found_or_not}
 
 -- the TLB keeps its entries
 put_length : (tlb : Tlb) (page : ℕ) (o : Option Leaf) → length (put tlb page o).entries ≡ length tlb.entries
@@ -77,11 +79,11 @@ module _ (x : Context) (t : Tables) (ws : List ℕ) (root : ℕ) where
   load_kept : (width : LoadWidth) (rd : Register) (address : ℕ) → Kept x t ws (page_walk + miss + write_back) (load_ran x t ws root width rd address)
   unfolding load_ran
   load_kept width rd address = elim (cases_Bool (is_aligned (load_bytes width) address)) [
-    | inl a ↦ elim (cases_Bool (looked_up t ws root address Load).permitted) [
-      | inl e ↦
+    | inl a ↦ elim (found_or_not (looked_up t ws root address Load).frame) [
+      | inl f ↦
           let after = after_lookup t ws root address Load in
-          let line = line_of (place_in (looked_up t ws root address Load).frame address) in
-          rw (a, e) (record {
+          let line = line_of (place_in f.0 address) in
+          rw (a, f.1) (record {
             as_many = refl;
             most = omega (arith, lookup_most address Load, access_most after line);
             way = inl refl;
@@ -95,11 +97,11 @@ module _ (x : Context) (t : Tables) (ws : List ℕ) (root : ℕ) where
   store_kept : (width : StoreWidth) (address value : ℕ) → Kept x t ws (page_walk + miss + write_back) (store_ran x t ws root width address value)
   unfolding store_ran
   store_kept width address value = elim (cases_Bool (is_aligned (store_bytes width) address)) [
-    | inl a ↦ elim (cases_Bool (looked_up t ws root address Store).permitted) [
-      | inl e ↦
+    | inl a ↦ elim (found_or_not (looked_up t ws root address Store).frame) [
+      | inl f ↦
           let after = after_lookup t ws root address Store in
-          let line = line_of (place_in (looked_up t ws root address Store).frame address) in
-          rw (a, e) (record {
+          let line = line_of (place_in f.0 address) in
+          rw (a, f.1) (record {
             as_many = length-set ws _ _;
             most = omega (arith, lookup_most address Store, access_most after line);
             way = inl refl;
@@ -141,12 +143,16 @@ module _ (x : Context) (t : Tables) (ws : List ℕ) (root : ℕ) where
   decoded_kept clock (Some i) = executed_kept (doing i x clock)
 
 module _ (x : Context) (t : Tables) (ws : List ℕ) (root clock : ℕ) where
+  -- what the word of a fetch keeps, within a bound
+  abbrev WordKept : ℕ → ℕ → Type 0
+  WordKept bound w = Kept x (after_lookup t ws root x.pc Fetch) ws bound (word_ran x (after_lookup t ws root x.pc Fetch) ws root clock w)
+
   -- after the fetch, what the rest keeps
-  fetch_kept : (bound : ℕ) → Kept x (after_lookup t ws root x.pc Fetch) ws bound (word_ran x (after_lookup t ws root x.pc Fetch) ws root clock (fetched x t ws root)) →
+  fetch_kept : (bound : ℕ) → ((frame : ℕ) → (looked_up t ws root x.pc Fetch).frame ≡ Some frame → WordKept bound (word ws frame (x.pc % 4096 / 4))) →
       Kept x t ws (instruction + page_walk + bound) (fetch_ran x t ws root clock)
   unfolding fetch_ran
-  fetch_kept bound rest = elim (cases_Bool (looked_up t ws root x.pc Fetch).permitted) [
-    | inl e ↦ rw e (record {
+  fetch_kept bound word_kept = elim (found_or_not (looked_up t ws root x.pc Fetch).frame) [
+    | inl f ↦ let rest = word_kept f.0 f.1 in rw f.1 (record {
       as_many = rest.as_many;
       most = omega (arith, lookup_most x t ws root x.pc Fetch, rest.most);
       way = elim rest.way [ inl same ↦ inl same | inr s ↦ inr (record { cause = s.cause; context = s.context; words = s.words }) ];
@@ -155,21 +161,28 @@ module _ (x : Context) (t : Tables) (ws : List ℕ) (root clock : ℕ) where
     | inr e ↦ rw e (halts x t ws root _ (after_lookup t ws root x.pc Fetch) _ _ (omega (arith, lookup_most x t ws root x.pc Fetch)) (lookup_whole x t ws root x.pc Fetch))
   ]
 
-  word_kept : Kept x (after_lookup t ws root x.pc Fetch) ws (page_walk + miss + write_back) (word_ran x (after_lookup t ws root x.pc Fetch) ws root clock (fetched x t ws root))
+  any_word_kept : (w : ℕ) → WordKept (page_walk + miss + write_back) w
   unfolding word_ran
-  word_kept = decoded_kept x (after_lookup t ws root x.pc Fetch) ws root clock (decoded (fetched x t ws root))
+  any_word_kept w = decoded_kept x (after_lookup t ws root x.pc Fetch) ws root clock (decoded w)
 
-  branch_word_kept : (condition : Condition) (left right : Register) (offset : ℤ) → decoded (fetched x t ws root) ≡ Some (Branch condition left right offset) →
-      Kept x (after_lookup t ws root x.pc Fetch) ws misprediction (word_ran x (after_lookup t ws root x.pc Fetch) ws root clock (fetched x t ws root))
+  branch_word_kept : (condition : Condition) (left right : Register) (offset : ℤ) (w : ℕ) → decoded w ≡ Some (Branch condition left right offset) → WordKept misprediction w
   unfolding word_ran
-  branch_word_kept condition left right offset e = rw e (branch_kept x (after_lookup t ws root x.pc Fetch) ws root _ _)
+  branch_word_kept condition left right offset w e = rw e (branch_kept x (after_lookup t ws root x.pc Fetch) ws root _ _)
+
+  ready_kept : Kept x t ws (instruction + page_walk + (page_walk + miss + write_back)) (fetch_ran x t ws root clock)
+  ready_kept = fetch_kept _ (λ frame e. any_word_kept _)
+
+  branch_most : (condition : Condition) (left right : Register) (offset : ℤ) → decoded (fetched x t ws root) ≡ Some (Branch condition left right offset) →
+      (fetch_ran x t ws root clock).cost ≤ highest_branch
+  branch_most condition left right offset d =
+      (fetch_kept _ (λ frame e. branch_word_kept condition left right offset _ (ap (λ o. decoded (word ws (unwrap_or o 0) (x.pc % 4096 / 4))) (sym e) ∙ d))).most
 
   least_fetch : instruction ≤ (fetch_ran x t ws root clock).cost
   unfolding fetch_ran
-  least_fetch = elim (cases_Bool (looked_up t ws root x.pc Fetch).permitted) [ inl e ↦ rw e (omega arith) | inr e ↦ rw e (omega arith) ]
+  least_fetch = elim (found_or_not (looked_up t ws root x.pc Fetch).frame) [ inl f ↦ rw f.1 (omega arith) | inr e ↦ rw e (omega arith) ]
 
   whole_by : (s : State) → WholeTables t → WholeTables (stepped_by s x t ws root clock).tables
-  whole_by Ready w = (fetch_kept _ word_kept).whole w
+  whole_by Ready w = ready_kept.whole w
   whole_by (Stopped cause pc) w = w
 
   record By (s : State) (r : Ran) : Type 0 where
@@ -181,12 +194,12 @@ module _ (x : Context) (t : Tables) (ws : List ℕ) (root clock : ℕ) where
     rests : (cause : Cause) (pc : ℕ) → s ≡ Stopped cause pc → r ≡ ran x t ws instruction
 
   by_state : (s : State) → By s (stepped_by s x t ws root clock)
-  by_state Ready = let k = fetch_kept _ word_kept in record {
-    as_many = k.as_many;
+  by_state Ready = record {
+    as_many = ready_kept.as_many;
     least = least_fetch;
-    most = k.most;
-    branch = λ condition left right offset e. (fetch_kept _ (branch_word_kept condition left right offset e)).most;
-    ready = λ _. k.way;
+    most = ready_kept.most;
+    branch = branch_most;
+    ready = λ _. ready_kept.way;
     rests = λ cause pc e. absurd (apart Ready cause pc refl e);
   }
   by_state (Stopped cause pc) = record {

@@ -22,6 +22,7 @@ use Rattle.hart.specs.declared.context.State.TheVariants.{Ready, Stopped}
 use Rattle.hart.specs.declared.context.State.{State}
 use Rattle.hart.specs.declared.context.Context.{Context}
 use Rattle.hart.specs.declared.step.Core.{Core}
+use Rattle.hart.specs.Causes.{fault_cause}
 use Rattle.hart.specs.Memory.{is_aligned, load_bytes, loaded, store_bytes, stored}
 use Rattle.hart.specs.Execution.{Doing, sets, jumps, branches, loads, stores, branch_context, doing, fresh, goes_on, jumped, misses_target, next_pc, register_set, stopped}
 
@@ -61,21 +62,26 @@ store_to x t ws width address value frame cost =
     (written ws frame (address % 4096 / 4) (stored width (word ws frame (address % 4096 / 4)) address value))
     (cost + access_cost t.cache (line_of (place_in frame address)))
 
+-- the same by what the look-up found: a frame, or a fault
+abbrev pub load_found : Context → Tables → List ℕ → LoadWidth → Register → ℕ → Option ℕ → ℕ → Ran
+load_found x t ws width rd address None cost = ran (stopped x LoadFault) t ws cost
+load_found x t ws width rd address (Some frame) cost = load_from x t ws width rd address frame cost
+
+abbrev pub store_found : Context → Tables → List ℕ → StoreWidth → ℕ → ℕ → Option ℕ → ℕ → Ran
+store_found x t ws width address value None cost = ran (stopped x StoreFault) t ws cost
+store_found x t ws width address value (Some frame) cost = store_to x t ws width address value frame cost
+
 -- alignment is tested first, then the page is looked up, then the cache is asked
 unfoldable pub load_ran : Context → Tables → List ℕ → ℕ → LoadWidth → Register → ℕ → Ran
 load_ran x t ws root width rd address =
     cond (is_aligned (load_bytes width) address)
-    (cond (looked_up t ws root address Load).permitted
-    (load_from x (after_lookup t ws root address Load) ws width rd address (looked_up t ws root address Load).frame (looked_up t ws root address Load).cost)
-    (ran (stopped x LoadFault) (after_lookup t ws root address Load) ws (looked_up t ws root address Load).cost))
+    (load_found x (after_lookup t ws root address Load) ws width rd address (looked_up t ws root address Load).frame (looked_up t ws root address Load).cost)
     (ran (stopped x LoadMisaligned) t ws 0)
 
 unfoldable pub store_ran : Context → Tables → List ℕ → ℕ → StoreWidth → ℕ → ℕ → Ran
 store_ran x t ws root width address value =
     cond (is_aligned (store_bytes width) address)
-    (cond (looked_up t ws root address Store).permitted
-    (store_to x (after_lookup t ws root address Store) ws width address value (looked_up t ws root address Store).frame (looked_up t ws root address Store).cost)
-    (ran (stopped x StoreFault) (after_lookup t ws root address Store) ws (looked_up t ws root address Store).cost))
+    (store_found x (after_lookup t ws root address Store) ws width address value (looked_up t ws root address Store).frame (looked_up t ws root address Store).cost)
     (ran (stopped x StoreMisaligned) t ws 0)
 
 -- the predictor learns how a branch went, and a wrong prediction costs
@@ -102,17 +108,18 @@ abbrev pub decoded_ran : Context → Tables → List ℕ → ℕ → ℕ → Opt
 decoded_ran x t ws root clock None = ran (stopped x IllegalInstruction) t ws 0
 decoded_ran x t ws root clock (Some i) = executed x t ws root (doing i x clock)
 
--- a fetch that is permitted, and what the word asks for
+-- what the word of a fetch asks for
 unfoldable pub word_ran : Context → Tables → List ℕ → ℕ → ℕ → ℕ → Ran
 word_ran x t ws root clock w = decoded_ran x t ws root clock (decoded w)
+
+abbrev pub fetch_found : Context → Tables → List ℕ → ℕ → ℕ → Option ℕ → ℕ → Ran
+fetch_found x t ws root clock None cost = ran (stopped x FetchFault) t ws cost
+fetch_found x t ws root clock (Some frame) cost = and_cost cost (word_ran x t ws root clock (word ws frame (x.pc % 4096 / 4)))
 
 -- a ready program: the fetch, which uses the TLB and not the cache, and then its word
 unfoldable pub fetch_ran : Context → Tables → List ℕ → ℕ → ℕ → Ran
 fetch_ran x t ws root clock =
-    cond (looked_up t ws root x.pc Fetch).permitted
-    (and_cost (instruction + (looked_up t ws root x.pc Fetch).cost)
-    (word_ran x (after_lookup t ws root x.pc Fetch) ws root clock (word ws (looked_up t ws root x.pc Fetch).frame (x.pc % 4096 / 4))))
-    (ran (stopped x FetchFault) (after_lookup t ws root x.pc Fetch) ws (instruction + (looked_up t ws root x.pc Fetch).cost))
+    fetch_found x (after_lookup t ws root x.pc Fetch) ws root clock (looked_up t ws root x.pc Fetch).frame (instruction + (looked_up t ws root x.pc Fetch).cost)
 
 -- one step: a stopped program uses up one cycle
 abbrev pub stepped_by : State → Context → Tables → List ℕ → ℕ → ℕ → Ran
@@ -138,6 +145,15 @@ after core r = record core { context = r.context; tables = r.tables }
 
 abbrev pub later : Core → Ran → Core
 later core r = record core { context = r.context; tables = r.tables; clock = (core.clock + r.cost) % 2 ^ 64 }
+
+-- after a look-up, which stops a program whose access faults
+abbrev pub unless_fault : Context → Access → Option ℕ → Context
+unless_fault x access None = stopped x (fault_cause access)
+unless_fault x access (Some frame) = x
+
+abbrev pub faulted : Core → List ℕ → ℕ → Access → Option ℕ → Core
+faulted core ws address access frame =
+    record core { context = unless_fault core.context access frame; tables = after_lookup core.tables ws core.root address access }
 
 abbrev pub branched : Core → Bool → ℕ → Core
 branched core taken target =

@@ -1,5 +1,5 @@
 -- What every step keeps, whatever the tables hold.
-use Rattle.std.specs.Prelude.{◌≡◌, ℕ, ◌/◌, ◌%◌, ◌≤◌, ◌⊎◌, List, length, ℤ, Some}
+use Rattle.std.specs.Prelude.{◌≡◌, ℕ, ◌/◌, ◌%◌, ◌≤◌, ◌⊎◌, List, length, ℤ, Some, unwrap_or}
 use Rattle.words.specs.Costs.{highest, highest_branch, instruction}
 use Rattle.words.specs.Frames.{word}
 use Rattle.isa.specs.declared.register.Register.{Register}
@@ -23,9 +23,9 @@ pub record Stops (x : Context) (ws : List ℕ) (r : Ran) : Type 0 where
   pub context : r.context ≡ stopped x cause
   pub words : r.words ≡ ws
 
--- the word that the program counter is at
+-- the word that the program counter is at; one of frame 0 where the fetch faults
 abbrev pub fetched : Context → Tables → List ℕ → ℕ → ℕ
-fetched x t ws root = word ws (looked_up t ws root x.pc Fetch).frame (x.pc % 4096 / 4)
+fetched x t ws root = word ws (unwrap_or (looked_up t ws root x.pc Fetch).frame 0) (x.pc % 4096 / 4)
 
 pub record Step (x : Context) (t : Tables) (ws : List ℕ) (root clock : ℕ) : Type 0 where
   pub as_many : length (stepped x t ws root clock).words ≡ length ws

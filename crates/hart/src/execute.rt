@@ -55,23 +55,13 @@ impl Core {
             self.context.stop(Cause::LoadMisaligned);
             return 0;
         }
-        let found = self
-            .tables
-            .tlb
-            .find(words, self.root, address / PAGE_BYTES, Access::Load);
-        if !found.permitted {
-            self.context.stop(Cause::LoadFault);
+        let found = self.look_up(words, address, Access::Load);
+        let Some(frame) = found.frame else {
             return found.cost;
-        }
+        };
         let offset = address % PAGE_BYTES;
-        let cost = self.tables.cache.access(
-            Place {
-                frame: found.frame,
-                offset,
-            },
-            false,
-        );
-        let word = frames::read(words, found.frame, offset / 4);
+        let cost = self.tables.cache.access(Place { frame, offset }, false);
+        let word = frames::read(words, frame, offset / 4);
         self.context
             .set(register, memory::load(width, word, address));
         found.cost + cost
@@ -88,26 +78,16 @@ impl Core {
             self.context.stop(Cause::StoreMisaligned);
             return 0;
         }
-        let found = self
-            .tables
-            .tlb
-            .find(words, self.root, address / PAGE_BYTES, Access::Store);
-        if !found.permitted {
-            self.context.stop(Cause::StoreFault);
+        let found = self.look_up(words, address, Access::Store);
+        let Some(frame) = found.frame else {
             return found.cost;
-        }
+        };
         let offset = address % PAGE_BYTES;
-        let cost = self.tables.cache.access(
-            Place {
-                frame: found.frame,
-                offset,
-            },
-            true,
-        );
-        let old = frames::read(words, found.frame, offset / 4);
+        let cost = self.tables.cache.access(Place { frame, offset }, true);
+        let old = frames::read(words, frame, offset / 4);
         frames::write(
             words,
-            found.frame,
+            frame,
             offset / 4,
             memory::store(width, old, address, value),
         );

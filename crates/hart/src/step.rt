@@ -1,13 +1,14 @@
 // A core with the program that it runs, and one step of it.
 ghost use Rattle.std.specs.Prelude.{◌≡◌, ◌+◌, ◌≤◌};
 ghost use Rattle.words.specs.Costs.{highest, instruction, miss, page_walk, write_back};
-ghost use Rattle.hart.specs.Core.{after, first_core, later, on, step_of, word_ran};
+ghost use Rattle.hart.specs.Core.{after, faulted, first_core, later, looked_up, on, step_of, word_ran};
 
 use crate::cause::Cause;
 use crate::context::{Context, State};
 use isa::decoder::{Afresh, Decode};
 use paging::access::Access;
 use tables::Tables;
+use tables::tlb::Lookup;
 use words::costs::INSTRUCTION;
 use words::frames;
 
@@ -74,15 +75,28 @@ impl Core {
         if let State::Stopped { .. } = self.context.state {
             return INSTRUCTION;
         }
-        let (page, offset) = (self.context.pc / PAGE_BYTES, self.context.pc % PAGE_BYTES);
-        let found = self.tables.tlb.find(words, self.root, page, Access::Fetch);
+        let pc = self.context.pc;
+        let found = self.look_up(words, pc, Access::Fetch);
         let cost = INSTRUCTION + found.cost;
-        if !found.permitted {
-            self.context.stop(Cause::FetchFault);
+        let Some(frame) = found.frame else {
             return cost;
-        }
-        let word = frames::read(words, found.frame, offset / 4);
+        };
+        let word = frames::read(words, frame, pc % PAGE_BYTES / 4);
         cost + self.run_word(word, words, decoder)
+    }
+
+    // Finds the frame that an address lies in. A program that has none there, or not for this access, stops.
+    pub(crate) fn look_up(&mut self, words: &[u32], address: u32, access: Access) -> Lookup
+        ensures found { result ≡ looked_up self.old.tables words.now self.old.root address access }
+        ensures most { result.cost ≤ page_walk }
+        ensures core { self.new ≡ faulted self.old words.now address access result.frame }
+    {
+        let page = address / PAGE_BYTES;
+        let found = self.tables.tlb.find(words, self.root, page, access);
+        if found.frame.is_none() {
+            self.context.stop(Cause::from(access));
+        }
+        found
     }
 
     // The instruction of a word that was fetched.

@@ -22,26 +22,22 @@ use Rattle.tables.specs.Honest.{Honest, TrueEntry, Truthful, reached}
 use Rattle.tables.specs.Laws.{Highest, Honesty, LookUps}
 use Rattle.tables.proofs.Lines.{access_costs}
 
-reply_cost : (cost : ℕ) (o : Option Leaf) → (reply cost o).cost ≡ cost
-reply_cost cost None = refl
-reply_cost cost (Some leaf) = refl
-
 module _ (access : Access) where
   found_cost : (o walk : Option Leaf) → (found_by access o walk).cost ≡ cond (is_some o) 0 page_walk
-  found_cost None walk = reply_cost page_walk (granted access walk)
-  found_cost (Some leaf) walk = reply_cost 0 (granted access (Some leaf))
+  found_cost None walk = refl
+  found_cost (Some leaf) walk = refl
 
   -- a fault has no leaf to fill in
-  faulted : (cost : ℕ) (o : Option Leaf) → (reply cost o).permitted ≡ false → o ≡ None
+  faulted : (cost : ℕ) (o : Option Leaf) → (reply cost o).frame ≡ None → o ≡ None
   faulted cost None e = refl
   faulted cost (Some leaf) e = absurd (let z : ◌≡◌ {A = ℕ} 0 1 = cc in omega arith)
 
-  allowed : (cost : ℕ) (o : Option Leaf) → (reply cost o).permitted ≡ true → (leaf : Leaf) × (o ≡ Some leaf)
+  allowed : (cost : ℕ) (o : Option Leaf) → is_some (reply cost o).frame ≡ true → (leaf : Leaf) × (o ≡ Some leaf)
   allowed cost None e = absurd (let z : ◌≡◌ {A = ℕ} 0 1 = cc in omega arith)
   allowed cost (Some leaf) e = (leaf, refl)
 
   module _ (tlb : Tlb) (page : ℕ) where
-    faulted_fills : (o walk : Option Leaf) → (found_by access o walk).permitted ≡ false → filled_by tlb page access o walk ≡ tlb
+    faulted_fills : (o walk : Option Leaf) → (found_by access o walk).frame ≡ None → filled_by tlb page access o walk ≡ tlb
     faulted_fills None walk e = ap (put tlb page) (faulted page_walk (granted access walk) e)
     faulted_fills (Some leaf) walk e = refl
 
@@ -51,7 +47,7 @@ module _ (access : Access) where
         let room : entry_of page < length tlb.entries = omega (arith, mod_below page 16 (omega arith)) in
         ap (leaf_for page) (get_or-set_same tlb.entries (entry_of page) entry None room) ∙ rw (eq-eqb page page refl) refl
 
-    allowed_fills : (o walk : Option Leaf) → known tlb page ≡ o → length tlb.entries ≡ 16 → (found_by access o walk).permitted ≡ true →
+    allowed_fills : (o walk : Option Leaf) → known tlb page ≡ o → length tlb.entries ≡ 16 → is_some (found_by access o walk).frame ≡ true →
         is_some (known (filled_by tlb page access o walk) page) ≡ true
     allowed_fills None walk is e ok =
         let a = allowed page_walk (granted access walk) ok in

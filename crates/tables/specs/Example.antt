@@ -1,5 +1,5 @@
 -- A store and two loads, worked: the root is frame 0, its first entry points to frame 1, where pages 17 and 18 map to frames 2 and 3 with R and W.
-use Rattle.std.specs.Prelude.{◌≡◌, ℕ, ◌+◌, ◌/◌, ◌%◌, Bool, true, false, List, replicate}
+use Rattle.std.specs.Prelude.{◌≡◌, ℕ, ◌+◌, ◌/◌, ◌%◌, Bool, true, false, List, replicate, unwrap_or}
 use Rattle.words.specs.Costs.{instruction, miss, page_walk, write_back}
 use Rattle.words.specs.Frames.{written}
 use Rattle.paging.specs.declared.access.Access.{Access}
@@ -18,7 +18,7 @@ abbrev pub lookup : Tables → Access → ℕ → Lookup
 lookup tables access address = found tables.tlb (address / 4096) access (walked four_frames 0 (address / 4096))
 
 abbrev pub line_at : Lookup → ℕ → ℕ
-line_at answer address = line_of (record { frame = answer.frame; offset = address % 4096 })
+line_at answer address = line_of (record { frame = unwrap_or answer.frame 0; offset = address % 4096 })
 
 -- the cycles of a load or store whose code page is known, and the tables after it
 abbrev pub cycles : Tables → Access → ℕ → ℕ

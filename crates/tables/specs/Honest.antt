@@ -1,5 +1,5 @@
 -- A TLB that answers what a walk would.
-use Rattle.std.specs.Prelude.{◌≡◌, ℕ, ◌/◌, ◌%◌, cond, List, Some, None, Ok, Err, Option, Result}
+use Rattle.std.specs.Prelude.{◌≡◌, ℕ, ◌/◌, ◌%◌, List, Some, None, Ok, Err, Option, Result}
 use Rattle.std.specs.List.{AllByRecursion}
 use Rattle.paging.specs.declared.access.Access.{Access}
 use Rattle.paging.specs.declared.translate.PageFault.{PageFault}
@@ -20,9 +20,12 @@ abbrev pub Honest : Tlb → List ℕ → ℕ → Type 0
 Honest tlb words root = AllByRecursion (TrueEntry words root) tlb.entries
 
 -- the place that a look-up gives for an address in its page, or the fault
+abbrev pub reached_in : Option ℕ → ℕ → Access → Result Place PageFault
+reached_in None address access = Err (page_fault access)
+reached_in (Some frame) address access = Ok (record { frame = frame; offset = address % 4096 })
+
 abbrev pub reached : Lookup → ℕ → Access → Result Place PageFault
-reached lookup address access =
-    cond lookup.permitted (Ok (record { frame = lookup.frame; offset = address % 4096 })) (Err (page_fault access))
+reached lookup address access = reached_in lookup.frame address access
 
 -- a look-up gives what translation by the page tables gives, and leaves an honest TLB
 pub record Truthful (after : Tlb) (words : List ℕ) (root page : ℕ) (access : Access) (lookup : Lookup) : Type 0 where

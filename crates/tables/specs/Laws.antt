@@ -1,5 +1,5 @@
 -- What the definitions of this crate come to.
-use Rattle.std.specs.Prelude.{◌≡◌, ℕ, ◌+◌, ◌*◌, ◌≤◌, Bool, true, false, cond, ◌⊎◌, List, length, replicate, is_some, Decides, Option, ◌≢◌}
+use Rattle.std.specs.Prelude.{◌≡◌, ℕ, ◌+◌, ◌*◌, ◌≤◌, Bool, true, false, cond, ◌⊎◌, List, length, replicate, is_some, None, Decides, Option, ◌≢◌}
 use Rattle.std.specs.List.{AllByRecursion}
 use Rattle.words.specs.Costs.{highest, highest_branch, instruction, miss, misprediction, page_walk, write_back}
 use Rattle.paging.specs.declared.access.Access.{Access}
@@ -83,8 +83,8 @@ pub record CountersStay : Type 0 where
 -- a look-up costs a walk unless the page is known; one that faults fills nothing; after one that does not fault, the page is known
 pub record LookedUp (tlb : Tlb) (page : ℕ) (access : Access) (walk : Option Leaf) : Type 0 where
   pub cost : (found tlb page access walk).cost ≡ cond (is_some (known tlb page)) 0 page_walk
-  pub fault : (found tlb page access walk).permitted ≡ false → filled tlb page access walk ≡ tlb
-  pub fills : length tlb.entries ≡ 16 → (found tlb page access walk).permitted ≡ true → is_some (known (filled tlb page access walk) page) ≡ true
+  pub fault : (found tlb page access walk).frame ≡ None → filled tlb page access walk ≡ tlb
+  pub fills : length tlb.entries ≡ 16 → is_some (found tlb page access walk).frame ≡ true → is_some (known (filled tlb page access walk) page) ≡ true
 
 abbrev pub LookUps : Type 0
 LookUps = (tlb : Tlb) (page : ℕ) (access : Access) (walk : Option Leaf) → LookedUp tlb page access walk

@@ -1,5 +1,5 @@
 -- The TLB: 16 entries, each with the number of a page and its leaf.
-use Rattle.std.specs.Prelude.{ℕ, ◌%◌, true, false, cond, replicate, Some, None, Option, ◌==◌, slice_index_or, slice_set}
+use Rattle.std.specs.Prelude.{ℕ, ◌%◌, cond, replicate, Some, None, Option, option_map, ◌==◌, slice_index_or, slice_set}
 use Rattle.words.specs.Costs.{page_walk}
 use Rattle.paging.specs.declared.access.Access.{Access}
 use Rattle.paging.specs.declared.leaf.Leaf.{Leaf}
@@ -27,8 +27,7 @@ granted access (Some leaf) = cond (permitted leaf access) (Some leaf) None
 
 -- the answer to an access: a frame, or a fault
 abbrev pub reply : ℕ → Option Leaf → Lookup
-reply cost None = record { permitted = false; frame = 0; cost = cost }
-reply cost (Some leaf) = record { permitted = true; frame = leaf.frame; cost = cost }
+reply cost leaf = record { frame = option_map (λ l. l.frame) leaf; cost = cost }
 
 -- a page that is known needs no walk, and faults without one if it does not permit the access
 abbrev pub found_by : Access → Option Leaf → Option Leaf → Lookup

@@ -2,7 +2,7 @@
 use crate::Tables;
 use crate::cache::Cache;
 use crate::predictor::Predictor;
-use crate::tlb::Tlb;
+use crate::tlb::{Lookup, Tlb};
 use paging::access::Access;
 use paging::translate::Place;
 use words::frames::write;
@@ -73,27 +73,23 @@ fn memory() -> [u32; 4096] {
 #[test]
 fn look_ups(rt: HostRuntime) {
     let row = [
-        (17, Access::Load, true, 2, 30),
-        (17, Access::Store, true, 2, 0),
-        (17, Access::Fetch, false, 0, 0),
-        (33, Access::Store, false, 0, 30),
-        (17, Access::Load, true, 2, 0),
-        (33, Access::Load, true, 3, 30),
-        (33, Access::Store, false, 0, 0),
-        (17, Access::Load, true, 2, 30),
-        (18, Access::Load, false, 0, 30),
-        (18, Access::Load, false, 0, 30),
-        ((1 << 20) + 17, Access::Load, false, 0, 30),
-        (17, Access::Load, true, 2, 0),
+        (17, Access::Load, Some(2), 30),
+        (17, Access::Store, Some(2), 0),
+        (17, Access::Fetch, None, 0),
+        (33, Access::Store, None, 30),
+        (17, Access::Load, Some(2), 0),
+        (33, Access::Load, Some(3), 30),
+        (33, Access::Store, None, 0),
+        (17, Access::Load, Some(2), 30),
+        (18, Access::Load, None, 30),
+        (18, Access::Load, None, 30),
+        ((1 << 20) + 17, Access::Load, None, 30),
+        (17, Access::Load, Some(2), 0),
     ];
     let words = memory();
     let mut tlb = Tlb::new();
-    for (page, access, permitted, frame, cost) in row {
-        let found = tlb.find(&words, 0, page, access);
-        assert_eq!(rt;
-            (found.permitted, found.frame, found.cost),
-            (permitted, frame, cost)
-        );
+    for (page, access, frame, cost) in row {
+        assert_eq!(rt; tlb.find(&words, 0, page, access), Lookup { frame, cost });
     }
 }
 
@@ -102,11 +98,19 @@ fn look_ups(rt: HostRuntime) {
 fn no_walk_on_a_hit(rt: HostRuntime) {
     let mut words = memory();
     let mut tlb = Tlb::new();
-    assert_eq!(rt; tlb.find(&words, 0, 17, Access::Load).frame, 2);
+    assert_eq!(rt; tlb.find(&words, 0, 17, Access::Load).frame, Some(2));
     write(&mut words, 1, 17, 0);
-    let found = tlb.find(&words, 0, 17, Access::Load);
-    assert_eq!(rt; (found.permitted, found.frame, found.cost), (true, 2, 0));
-    assert!(rt; !tlb.find(&words, 0, 33 + (1 << 10), Access::Load).permitted);
+    assert_eq!(rt;
+        tlb.find(&words, 0, 17, Access::Load),
+        Lookup {
+            frame: Some(2),
+            cost: 0,
+        }
+    );
+    assert_eq!(rt;
+        tlb.find(&words, 0, 33 + (1 << 10), Access::Load).frame,
+        None
+    );
 }
 
 // The branches at 0x100 and 0x200 have one counter.
