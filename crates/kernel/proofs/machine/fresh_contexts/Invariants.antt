@@ -1,6 +1,7 @@
 use Rattle.std.proofs.Common.{◌≡◌}
 use Rattle.plan.specs.Format.{rows}
-use Rattle.kernel.specs.Machine.{fresh, fresh_at}
+use Rattle.hart.specs.Execution.{fresh}
+use Rattle.kernel.specs.Machine.{fresh_at}
 use Rattle.kernel.proofs.machine.fresh_contexts.Given as goal
 
 abbrev pub invariant-loop-k : goal.invariant-loop-k
