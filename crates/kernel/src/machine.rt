@@ -1,8 +1,6 @@
 // The machine: contexts, tables, clock, and the slot to come.
 ghost use Rattle.std.specs.Prelude.{◌≡◌, ◌+◌, ◌-◌, ◌^◌, ◌<◌};
-ghost use Rattle.plan.specs.Format.{rows};
-ghost use Rattle.hart.specs.Execution.{fresh};
-ghost use Rattle.kernel.specs.Machine.{after_slot, fresh_at, loaded, switched, system};
+ghost use Rattle.kernel.specs.Machine.{after_slot, loaded, switched, system};
 ghost use Rattle.kernel.specs.Reports.{slot_report};
 
 use crate::inside::run_until;
@@ -12,32 +10,20 @@ use checker::Accepted;
 use hart::context::Context;
 use hart::step::Core;
 use isa::decoder::Decoder;
-use plan::model::Plan;
+use plan::model::{MOST_PARTITIONS, Plan};
 use tables::Tables;
 use words::costs::{MESSAGE, WRITE_BACK};
-
-const PARTITIONS: usize = 8;
 
 // The clock does not grow past this.
 const LATEST: u64 = 1 << 63;
 
 #[derive(Clone, Copy)]
 pub struct Machine {
-    pub contexts: [Context; 8],
+    pub contexts: [Context; MOST_PARTITIONS],
     pub tables: Tables,
     pub clock: u64,
     // how many slots ran
     pub turn: u32,
-}
-
-fn fresh_contexts(plan: &Plan) -> [Context; 8]
-    ensures { result ≡ rows (fresh_at plan.now) (fresh 0) 8 8 }
-{
-    let mut contexts = [Context::new(0); PARTITIONS];
-    for k in 0..PARTITIONS {
-        contexts[k] = Context::new(plan.partition(k).start);
-    }
-    contexts
 }
 
 impl Machine {
@@ -46,7 +32,9 @@ impl Machine {
         ensures { result ≡ loaded plan.now }
     {
         Machine {
-            contexts: fresh_contexts(plan),
+            contexts: plan
+                .partitions
+                .map(|partition| Context::new(partition.start)),
             tables: Tables::new(),
             clock: 0,
             turn: 0,
@@ -68,7 +56,7 @@ impl Machine {
     {
         let slot = accepted.plan.slot_of(self.turn);
         let who = slot.partition as usize;
-        if who >= PARTITIONS || self.turn == u32::MAX || self.clock >= LATEST {
+        if who >= MOST_PARTITIONS || self.turn == u32::MAX || self.clock >= LATEST {
             return None;
         }
         let mut core = Core {
