@@ -1,5 +1,5 @@
 -- The core: one instruction with TLB, cache, predictor and cost.
-use Rattle.std.specs.Prelude.{ℕ, ◌+◌, ◌/◌, ◌%◌, Bool, true, false, cond, List, Some, None, Option}
+use Rattle.std.specs.Prelude.{ℕ, ◌+◌, ◌/◌, ◌%◌, ◌^◌, Bool, true, false, cond, List, Some, None, Option}
 use Rattle.words.specs.Costs.{instruction}
 use Rattle.words.specs.Frames.{word, written}
 use Rattle.isa.specs.declared.register.Register.{Register}
@@ -13,6 +13,7 @@ use Rattle.paging.specs.declared.translate.Place.{Place}
 use Rattle.paging.specs.Walks.{walked}
 use Rattle.tables.specs.declared.Tables.{Tables}
 use Rattle.tables.specs.declared.tlb.Lookup.{Lookup}
+use Rattle.tables.specs.First.{first_tables}
 use Rattle.tables.specs.Tlb.{found, filled}
 use Rattle.tables.specs.Cache.{access_cost, accessed, line_of}
 use Rattle.tables.specs.Predictor.{branch_cost, learned}
@@ -20,8 +21,10 @@ use Rattle.hart.specs.declared.cause.Cause.TheVariants.{IllegalInstruction, Fetc
 use Rattle.hart.specs.declared.context.State.TheVariants.{Ready, Stopped}
 use Rattle.hart.specs.declared.context.State.{State}
 use Rattle.hart.specs.declared.context.Context.{Context}
+use Rattle.hart.specs.declared.step.Core.{Core}
+use Rattle.hart.specs.Causes.{fault_cause}
 use Rattle.hart.specs.Memory.{is_aligned, load_bytes, loaded, store_bytes, stored}
-use Rattle.hart.specs.Execution.{Doing, sets, jumps, branches, loads, stores, branch_context, doing, goes_on, jumped, misses_target, next_pc, register_set, stopped}
+use Rattle.hart.specs.Execution.{Doing, sets, jumps, branches, loads, stores, branch_context, doing, fresh, goes_on, jumped, misses_target, next_pc, register_set, stopped}
 
 -- what a step leaves, and what it cost
 pub record Ran : Type 0 where
@@ -125,3 +128,37 @@ stepped_by (Stopped cause pc) x t ws root clock = ran x t ws instruction
 
 unfoldable pub stepped : Context → Tables → List ℕ → ℕ → ℕ → Ran
 stepped x t ws root clock = stepped_by x.state x t ws root clock
+
+-- the same of a core: what runs on its context and its tables, under its root
+abbrev pub on : {A : Type 0} → Core → (Context → Tables → List ℕ → ℕ → A) → List ℕ → A
+on core runs ws = runs core.context core.tables ws core.root
+
+abbrev pub step_of : Core → List ℕ → Ran
+step_of core ws = on core stepped ws core.clock
+
+abbrev pub execution_of : Core → List ℕ → Instruction → Ran
+execution_of core ws i = on core executed ws (doing i core.context core.clock)
+
+-- a core with what was left of its context and its tables, and then with the clock moved on too, which has 64 bits
+abbrev pub after : Core → Ran → Core
+after core r = record core { context = r.context; tables = r.tables }
+
+abbrev pub later : Core → Ran → Core
+later core r = record core { context = r.context; tables = r.tables; clock = (core.clock + r.cost) % 2 ^ 64 }
+
+-- after a look-up, which stops a program whose access faults
+abbrev pub unless_fault : Context → Access → Option ℕ → Context
+unless_fault x access None = stopped x (fault_cause access)
+unless_fault x access (Some frame) = x
+
+abbrev pub faulted : Core → List ℕ → ℕ → Access → Option ℕ → Core
+faulted core ws address access frame =
+    record core { context = unless_fault core.context access frame; tables = after_lookup core.tables ws core.root address access }
+
+abbrev pub branched : Core → Bool → ℕ → Core
+branched core taken target =
+    record core { context = branch_context core.context taken target; tables = branch_tables core.context core.tables taken target }
+
+-- a core with a fresh program: the tables in their first state, the clock at 0
+abbrev pub first_core : ℕ → ℕ → Core
+first_core root pc = record { context = fresh pc; tables = first_tables; root = root; clock = 0 }

@@ -1,5 +1,5 @@
 -- What an instruction does, by its name: to a register, to the counter, to memory. Memory and tables do not enter here.
-use Rattle.std.specs.Prelude.{ℕ, ◌+◌, ◌-◌, ◌/◌, ◌%◌, ◌^◌, Bool, cond, not, ◌&&◌, ℤ, pos, ◌+ℤ◌, ◌==◌}
+use Rattle.std.specs.Prelude.{ℕ, ◌+◌, ◌-◌, ◌/◌, ◌%◌, ◌^◌, Bool, true, false, cond, not, ◌&&◌, ℤ, pos, ◌+ℤ◌, ◌==◌}
 use Rattle.isa.specs.declared.register.Register.{Register}
 use Rattle.isa.specs.declared.instruction.LoadWidth.{LoadWidth}
 use Rattle.isa.specs.declared.instruction.StoreWidth.{StoreWidth}
@@ -8,11 +8,20 @@ use Rattle.isa.specs.declared.instruction.Counter.TheVariants.{Cycle, Time, Cycl
 use Rattle.isa.specs.declared.instruction.Instruction.{Instruction}
 use Rattle.isa.specs.declared.instruction.Instruction.TheVariants.{Lui, Auipc, Jal, Jalr, Branch, Load, Store, RegisterImmediate, RegisterRegister, ReadCounter}
 use Rattle.isa.specs.Meaning.{computed, holds, remainder}
-use Rattle.isa.specs.Registers.{held, written}
+use Rattle.isa.specs.Registers.{blank, held, written}
 use Rattle.hart.specs.declared.cause.Cause.{Cause}
 use Rattle.hart.specs.declared.cause.Cause.TheVariants.{FetchMisaligned}
-use Rattle.hart.specs.declared.context.State.TheVariants.{Stopped}
+use Rattle.hart.specs.declared.context.State.{State}
+use Rattle.hart.specs.declared.context.State.TheVariants.{Ready, Stopped}
 use Rattle.hart.specs.declared.context.Context.{Context}
+
+-- a program before its first instruction: registers 0, the counter at an address
+abbrev pub fresh : ℕ → Context
+fresh start = record { registers = blank; pc = start; state = Ready }
+
+abbrev pub is_ready : State → Bool
+is_ready Ready = true
+is_ready (Stopped cause pc) = false
 
 -- an address and an offset, which wrap at 2 ^ 32
 abbrev pub offset_by : ℕ → ℤ → ℕ

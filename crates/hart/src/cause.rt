@@ -4,7 +4,7 @@ ghost use Rattle.hart.specs.Causes.{cause_number, fault_cause};
 
 use paging::access::Access;
 
-#[derive(Clone, Copy)]
+#[derive(Clone, Copy, PartialEq, Eq, Debug)]
 pub enum Cause {
     IllegalInstruction,
     FetchMisaligned,
@@ -29,9 +29,11 @@ impl Cause {
             Cause::StoreFault => 7,
         }
     }
+}
 
-    // The cause of a page fault.
-    pub fn of_fault(access: Access) -> Cause
+// The cause of a page fault.
+impl From<Access> for Cause {
+    fn from(access: Access) -> Cause
         ensures { result ≡ fault_cause access }
     {
         match access {

@@ -1,15 +1,23 @@
 // What a program has of its own besides its memory.
 ghost use Rattle.std.specs.Prelude.{◌≡◌};
-ghost use Rattle.hart.specs.Execution.{goes_on, jumped, next_pc, register_set, stopped};
+ghost use Rattle.hart.specs.Execution.{fresh, goes_on, is_ready, jumped, next_pc, register_set, stopped};
 
 use crate::cause::Cause;
 use isa::register::{Register, Registers};
 
 // Whether a program goes on, or why and where it stopped.
-#[derive(Clone, Copy)]
+#[derive(Clone, Copy, PartialEq, Eq, Debug)]
 pub enum State {
     Ready,
     Stopped { cause: Cause, pc: u32 },
+}
+
+impl State {
+    pub fn is_ready(self) -> bool
+        ensures { result ≡ is_ready self }
+    {
+        matches!(self, State::Ready)
+    }
 }
 
 #[derive(Clone, Copy)]
@@ -20,6 +28,17 @@ pub struct Context {
 }
 
 impl Context {
+    // A program before its first instruction, which is at an address.
+    pub fn new(pc: u32) -> Self
+        ensures { result ≡ fresh pc }
+    {
+        Context {
+            registers: Registers::new(),
+            pc,
+            state: State::Ready,
+        }
+    }
+
     // The address after the instruction; addresses wrap.
     pub fn next(&self) -> u32
         ensures { result ≡ next_pc self.now }

@@ -1,95 +1,120 @@
-// One step of a program.
+// A core with the program that it runs, and one step of it.
 ghost use Rattle.std.specs.Prelude.{◌≡◌, ◌+◌, ◌≤◌};
 ghost use Rattle.words.specs.Costs.{highest, instruction, miss, page_walk, write_back};
-ghost use Rattle.hart.specs.Core.{stepped, word_ran};
+ghost use Rattle.hart.specs.Core.{after, faulted, first_core, later, looked_up, on, step_of, word_ran};
 
 use crate::cause::Cause;
 use crate::context::{Context, State};
-use crate::execute::execute;
 use isa::decoder::{Afresh, Decode};
 use paging::access::Access;
 use tables::Tables;
+use tables::tlb::Lookup;
 use words::costs::INSTRUCTION;
 use words::frames;
 
-const PAGE_BYTES: u32 = 4096;
+pub(crate) const PAGE_BYTES: u32 = 4096;
 // What parts the places of one program from those of the next.
 const APART: u32 = 1092;
 
-// Runs one instruction of a program with the page tables of a root, at a reading of the clock, and answers the cycles that it took.
-// A stopped program uses up one cycle, and nothing changes.
-pub fn step(
-    context: &mut Context,
-    tables: &mut Tables,
-    words: &mut [u32],
-    root: u32,
-    clock: u64,
-) -> u32
-    ensures cost { result ≡ (stepped context.old tables.old words.old root clock).cost }
-    ensures least { instruction ≤ result }
-    ensures most { result ≤ highest }
-    ensures context { context.new ≡ (stepped context.old tables.old words.old root clock).context }
-    ensures tables { tables.new ≡ (stepped context.old tables.old words.old root clock).tables }
-    ensures words { words.new ≡ (stepped context.old tables.old words.old root clock).words }
-{
-    step_with(context, tables, words, root, clock, &mut Afresh)
+// A program on the core: its context, the core's tables, the frame of its root page table, and the clock.
+#[derive(Clone, Copy)]
+pub struct Core {
+    pub context: Context,
+    pub tables: Tables,
+    pub root: u32,
+    pub clock: u64,
 }
 
-// The same step with a decoder, which is no part of the machine: with any decoder all is the same.
-#[tactic(auto, unfolding(crate::specs::Core::stepped, crate::specs::Core::fetch_ran))]
-pub fn step_with<D: Decode>(
-    context: &mut Context,
-    tables: &mut Tables,
-    words: &mut [u32],
-    root: u32,
-    clock: u64,
-    decoder: &mut D,
-) -> u32
-    ensures cost { result ≡ (stepped context.old tables.old words.old root clock).cost }
-    ensures least { instruction ≤ result }
-    ensures most { result ≤ highest }
-    ensures context { context.new ≡ (stepped context.old tables.old words.old root clock).context }
-    ensures tables { tables.new ≡ (stepped context.old tables.old words.old root clock).tables }
-    ensures words { words.new ≡ (stepped context.old tables.old words.old root clock).words }
-{
-    if let State::Stopped { .. } = context.state {
-        return INSTRUCTION;
+impl Core {
+    // A program before its first instruction, with the tables in their first state and the clock at 0.
+    pub fn new(root: u32, pc: u32) -> Self
+        ensures { result ≡ first_core root pc }
+    {
+        Core {
+            context: Context::new(pc),
+            tables: Tables::new(),
+            root,
+            clock: 0,
+        }
     }
-    let found = tables
-        .tlb
-        .find(words, root, context.pc / PAGE_BYTES, Access::Fetch);
-    let cost = INSTRUCTION + found.cost;
-    let Some(frame) = found.frame else {
-        context.stop(Cause::FetchFault);
-        return cost;
-    };
-    let word = frames::read(words, frame, context.pc % PAGE_BYTES / 4);
-    cost + run_word(word, context, tables, words, root, clock, decoder)
-}
 
-// The instruction of a word that was fetched.
-fn run_word<D: Decode>(
-    word: u32,
-    context: &mut Context,
-    tables: &mut Tables,
-    words: &mut [u32],
-    root: u32,
-    clock: u64,
-    decoder: &mut D,
-) -> u32
-    ensures cost { result ≡ (word_ran context.old tables.old words.old root clock word).cost }
-    ensures most { result ≤ page_walk + miss + write_back }
-    ensures context { context.new ≡ (word_ran context.old tables.old words.old root clock word).context }
-    ensures tables { tables.new ≡ (word_ran context.old tables.old words.old root clock word).tables }
-    ensures words { words.new ≡ (word_ran context.old tables.old words.old root clock word).words }
-{
-    // programs with one root after the other have other places for the same addresses
-    let number = context.pc.wrapping_add(root.wrapping_mul(APART));
-    match decoder.instruction_of(number, word) {
-        Some(instruction) => execute(instruction, context, tables, words, root, clock),
-        None => {
-            context.stop(Cause::IllegalInstruction);
-            0
+    // Runs one instruction, and answers the cycles that it took, by which the clock moves on.
+    // A stopped program uses up one cycle, and nothing else changes.
+    pub fn step(&mut self, words: &mut [u32]) -> u32
+        ensures cost { result ≡ (step_of self.old words.old).cost }
+        ensures least { instruction ≤ result }
+        ensures most { result ≤ highest }
+        ensures core { self.new ≡ later self.old (step_of self.old words.old) }
+        ensures words { words.new ≡ (step_of self.old words.old).words }
+    {
+        self.step_with(words, &mut Afresh)
+    }
+
+    // The same step with a decoder, which is no part of the machine: with any decoder all is the same.
+    pub fn step_with<D: Decode>(&mut self, words: &mut [u32], decoder: &mut D) -> u32
+        ensures cost { result ≡ (step_of self.old words.old).cost }
+        ensures least { instruction ≤ result }
+        ensures most { result ≤ highest }
+        ensures core { self.new ≡ later self.old (step_of self.old words.old) }
+        ensures words { words.new ≡ (step_of self.old words.old).words }
+    {
+        let cost = self.run(words, decoder);
+        self.clock = self.clock.wrapping_add(u64::from(cost));
+        cost
+    }
+
+    // A step at one reading of the clock.
+    #[tactic(auto, unfolding(crate::specs::Core::stepped, crate::specs::Core::fetch_ran))]
+    fn run<D: Decode>(&mut self, words: &mut [u32], decoder: &mut D) -> u32
+        ensures cost { result ≡ (step_of self.old words.old).cost }
+        ensures least { instruction ≤ result }
+        ensures most { result ≤ highest }
+        ensures core { self.new ≡ after self.old (step_of self.old words.old) }
+        ensures words { words.new ≡ (step_of self.old words.old).words }
+    {
+        if let State::Stopped { .. } = self.context.state {
+            return INSTRUCTION;
+        }
+        let pc = self.context.pc;
+        let found = self.look_up(words, pc, Access::Fetch);
+        let cost = INSTRUCTION + found.cost;
+        let Some(frame) = found.frame else {
+            return cost;
+        };
+        let word = frames::read(words, frame, pc % PAGE_BYTES / 4);
+        cost + self.run_word(word, words, decoder)
+    }
+
+    // Finds the frame that an address lies in. A program that has none there, or not for this access, stops.
+    pub(crate) fn look_up(&mut self, words: &[u32], address: u32, access: Access) -> Lookup
+        ensures found { result ≡ looked_up self.old.tables words.now self.old.root address access }
+        ensures most { result.cost ≤ page_walk }
+        ensures core { self.new ≡ faulted self.old words.now address access result.frame }
+    {
+        let page = address / PAGE_BYTES;
+        let found = self.tables.tlb.find(words, self.root, page, access);
+        if found.frame.is_none() {
+            self.context.stop(Cause::from(access));
+        }
+        found
+    }
+
+    // The instruction of a word that was fetched.
+    #[tactic(auto, unfolding(crate::specs::Core::word_ran))]
+    fn run_word<D: Decode>(&mut self, word: u32, words: &mut [u32], decoder: &mut D) -> u32
+        ensures cost { result ≡ (on self.old word_ran words.old self.old.clock word).cost }
+        ensures most { result ≤ page_walk + miss + write_back }
+        ensures core { self.new ≡ after self.old (on self.old word_ran words.old self.old.clock word) }
+        ensures words { words.new ≡ (on self.old word_ran words.old self.old.clock word).words }
+    {
+        // programs with one root after the other have other places for the same addresses
+        let number = self.context.pc.wrapping_add(self.root.wrapping_mul(APART));
+        match decoder.instruction_of(number, word) {
+            Some(instruction) => self.execute(instruction, words),
+            None => {
+                self.context.stop(Cause::IllegalInstruction);
+                0
+            }
         }
     }
 }

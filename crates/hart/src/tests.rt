@@ -1,10 +1,8 @@
 // Examples. The program `conformance` has the many.
 use crate::cause::Cause;
-use crate::context::{Context, State};
-use crate::step::step_with;
+use crate::step::Core;
 use isa::decoder::Decoder;
-use isa::register::{Register, Registers};
-use tables::Tables;
+use isa::register::Register;
 use words::frames::{read, write};
 
 // Frame 0 is the root, frame 1 its table; page 16 is frame 2 with R and X, and page 17 is frame 3 with R and W.
@@ -14,12 +12,8 @@ fn lay_out(words: &mut [u32], code: u32) {
     }
 }
 
-fn ready() -> Context {
-    Context {
-        registers: Registers::new(),
-        pc: 0x1_0000,
-        state: State::Ready,
-    }
+fn ready() -> Core {
+    Core::new(0, 0x1_0000)
 }
 
 #[test]
@@ -44,18 +38,11 @@ fn halves_of_the_clock(rt: HostRuntime) {
     for (code, value) in [(0xc000_22f3, 7), (0xc010_22f3, 7), (0xc800_22f3, 5)] {
         let mut words = [0; 4096];
         lay_out(&mut words, code);
-        let (mut context, mut tables) = (ready(), Tables::new());
-        let clock = 0x5_0000_0007;
-        let cost = step_with(
-            &mut context,
-            &mut tables,
-            &mut words,
-            0,
-            clock,
-            &mut decoder,
-        );
+        let mut core = ready();
+        core.clock = 0x5_0000_0007;
+        let cost = core.step_with(&mut words, &mut decoder);
         assert_eq!(rt; cost, 31);
-        assert_eq!(rt; context.registers.read(Register::new(5)), value);
+        assert_eq!(rt; core.context.registers.read(Register::new(5)), value);
     }
 }
 
@@ -67,11 +54,10 @@ fn a_byte_stored(rt: HostRuntime) {
         let mut words = [0; 4096];
         lay_out(&mut words, 0x0020_80a3);
         write(&mut words, 3, 0, 0xaabb_ccdd);
-        let (mut context, mut tables) = (ready(), Tables::new());
-        context.registers.write(Register::new(1), address);
-        context.registers.write(Register::new(2), 0x1234_56ff);
-        let took = step_with(&mut context, &mut tables, &mut words, 0, 0, &mut decoder);
-        assert_eq!(rt; took, cost);
+        let mut core = ready();
+        core.context.registers.write(Register::new(1), address);
+        core.context.registers.write(Register::new(2), 0x1234_56ff);
+        assert_eq!(rt; core.step_with(&mut words, &mut decoder), cost);
         assert_eq!(rt; read(&words, 3, 0), word);
     }
 }

@@ -18,10 +18,6 @@ pub can : (p : Plan) (m : Machine) (slot : Slot) → slot ≡ coming p m → slo
 can p m slot e a b c =
     and_from (ltb (who_runs p m) 8) _ (lt-ltb (who_runs p m) 8 (subst (λ (s : Slot). s.partition < 8) e a)) (and_from (ltb (m.turn + 1) (2 ^ 32)) (ltb m.clock (2 ^ 63)) (lt-ltb (m.turn + 1) (2 ^ 32) b) (lt-ltb m.clock (2 ^ 63) c))
 
-pub inside_is : (x : Context) (t : Tables) (ws : List ℕ) (clock instructions : ℕ) (y : Inside) → x ≡ y.context → t ≡ y.tables → ws ≡ y.words → clock ≡ y.clock → instructions ≡ y.instructions →
-    record { context = x; tables = t; words = ws; clock = clock; instructions = instructions } ≡ y
-inside_is x t ws clock instructions y a b c d e = rw (a, b, c, d, e)
-
 -- the steps of the slot, by the slot, the partition, the root and the context that the code has read
 pub same_end : (p : Plan) (m : Machine) (ws : List ℕ) (slot : Slot) (part : Partition) (root : ℕ) (context : Context) →
     slot ≡ coming p m → part ≡ partition p slot.partition → root ≡ part.root → context ≡ context_of m slot.partition →

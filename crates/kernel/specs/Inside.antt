@@ -1,14 +1,10 @@
 -- A program inside its slot: one step after the other, while the clock is below the slot's end.
-use Rattle.std.specs.Prelude.{ℕ, zero, suc, ◌+◌, Bool, true, false, cond, List, nat_lt}
+use Rattle.std.specs.Prelude.{ℕ, zero, suc, ◌+◌, cond, List, nat_lt}
 use Rattle.tables.specs.declared.Tables.{Tables}
 use Rattle.hart.specs.declared.context.Context.{Context}
-use Rattle.hart.specs.declared.context.State.{State}
-use Rattle.hart.specs.declared.context.State.TheVariants.{Ready, Stopped}
+use Rattle.hart.specs.declared.step.Core.{Core}
 use Rattle.hart.specs.Core.{stepped}
-
-abbrev pub is_ready : State → Bool
-is_ready Ready = true
-is_ready (Stopped cause pc) = false
+use Rattle.hart.specs.Execution.{is_ready}
 
 -- the running program, the tables, the lent words, the clock, and how many instructions the program has begun in this slot
 pub record Inside : Type 0 where
@@ -21,6 +17,11 @@ pub record Inside : Type 0 where
 -- a program at the beginning of its slot
 abbrev pub beginning : Context → Tables → List ℕ → ℕ → Inside
 beginning x t words clock = record { context = x; tables = t; words = words; clock = clock; instructions = 0 }
+
+-- a core with the lent words, after so many instructions
+abbrev pub inside : Core → List ℕ → ℕ → Inside
+inside core words instructions =
+    record { context = core.context; tables = core.tables; words = words; clock = core.clock; instructions = instructions }
 
 -- one step under a root; a stopped program uses up a cycle, which is no instruction
 abbrev pub next : ℕ → Inside → Inside
@@ -36,3 +37,7 @@ next root x = record {
 unfoldable pub until : ℕ → ℕ → ℕ → Inside → Inside
 until root stop zero x = x
 until root stop (suc n) x = cond (nat_lt x.clock stop) (until root stop n (next root x)) x
+
+-- a core that runs its program for a slot's length
+abbrev pub slot_on : Core → List ℕ → ℕ → Inside
+slot_on core words length = until core.root (core.clock + length) length (inside core words 0)

@@ -1,9 +1,8 @@
 -- The machine: how it starts, and what a slot makes of it.
 use Rattle.std.specs.Prelude.{ℕ, zero, suc, ◌+◌, ◌^◌, max, Bool, cond, ◌&&◌, List, nat_lt, slice_index_or, slice_set}
-use Rattle.isa.specs.Registers.{blank}
 use Rattle.tables.specs.First.{first_tables}
 use Rattle.hart.specs.declared.context.Context.{Context}
-use Rattle.hart.specs.declared.context.State.TheVariants.{Ready}
+use Rattle.hart.specs.Execution.{fresh}
 use Rattle.plan.specs.declared.model.Plan.{Plan}
 use Rattle.plan.specs.declared.model.Slot.{Slot}
 use Rattle.plan.specs.Format.{rows}
@@ -14,10 +13,6 @@ use Rattle.checker.specs.Lawful.{root}
 use Rattle.kernel.specs.declared.machine.Machine.{Machine}
 use Rattle.kernel.specs.Inside.{Inside, beginning, until}
 use Rattle.kernel.specs.Switch.{delivered, switch_work}
-
--- a program before its first instruction: registers 0, the counter at an address
-abbrev pub fresh : ℕ → Context
-fresh start = record { registers = blank; pc = start; state = Ready }
 
 abbrev pub fresh_at : Plan → ℕ → Context
 fresh_at p k = fresh (partition p k).start

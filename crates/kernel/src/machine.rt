@@ -1,52 +1,29 @@
 // The machine: contexts, tables, clock, and the slot to come.
 ghost use Rattle.std.specs.Prelude.{◌≡◌, ◌+◌, ◌-◌, ◌^◌, ◌<◌};
-ghost use Rattle.plan.specs.Format.{rows};
-ghost use Rattle.kernel.specs.Machine.{after_slot, fresh, fresh_at, loaded, switched, system};
+ghost use Rattle.kernel.specs.Machine.{after_slot, loaded, switched, system};
 ghost use Rattle.kernel.specs.Reports.{slot_report};
 
 use crate::inside::run_until;
 use crate::report::Report;
 use crate::switch::deliver;
 use checker::Accepted;
-use hart::context::{Context, State};
+use hart::context::Context;
+use hart::step::Core;
 use isa::decoder::Decoder;
-use isa::register::Registers;
-use plan::model::Plan;
+use plan::model::{MOST_PARTITIONS, Plan};
 use tables::Tables;
 use words::costs::{MESSAGE, WRITE_BACK};
-
-const PARTITIONS: usize = 8;
 
 // The clock does not grow past this.
 const LATEST: u64 = 1 << 63;
 
 #[derive(Clone, Copy)]
 pub struct Machine {
-    pub contexts: [Context; 8],
+    pub contexts: [Context; MOST_PARTITIONS],
     pub tables: Tables,
     pub clock: u64,
     // how many slots ran
     pub turn: u32,
-}
-
-fn fresh(start: u32) -> Context
-    ensures { result ≡ fresh start }
-{
-    Context {
-        registers: Registers::new(),
-        pc: start,
-        state: State::Ready,
-    }
-}
-
-fn fresh_contexts(plan: &Plan) -> [Context; 8]
-    ensures { result ≡ rows (fresh_at plan.now) (fresh 0) 8 8 }
-{
-    let mut contexts = [fresh(0); PARTITIONS];
-    for k in 0..PARTITIONS {
-        contexts[k] = fresh(plan.partition(k).start);
-    }
-    contexts
 }
 
 impl Machine {
@@ -55,7 +32,9 @@ impl Machine {
         ensures { result ≡ loaded plan.now }
     {
         Machine {
-            contexts: fresh_contexts(plan),
+            contexts: plan
+                .partitions
+                .map(|partition| Context::new(partition.start)),
             tables: Tables::new(),
             clock: 0,
             turn: 0,
@@ -64,6 +43,7 @@ impl Machine {
 
     // Runs the slot to come, and the switch after it. None, and nothing changes, where the slot has no partition, or its number or the clock no room to grow.
     // The decoder is no part of the machine: with any of them all is the same.
+    #[tactic(auto, unfolding(crate::specs::Machine::after_slot, crate::specs::Reports::slot_report))]
     pub fn run_slot(
         &mut self,
         accepted: &Accepted,
@@ -76,31 +56,28 @@ impl Machine {
     {
         let slot = accepted.plan.slot_of(self.turn);
         let who = slot.partition as usize;
-        if who >= PARTITIONS || self.turn == u32::MAX || self.clock >= LATEST {
+        if who >= MOST_PARTITIONS || self.turn == u32::MAX || self.clock >= LATEST {
             return None;
         }
-        let root = u32::from(accepted.plan.partition(who).root);
-        let mut context = self.contexts[who];
-        let ran = run_until(
-            &mut context,
-            &mut self.tables,
-            words,
-            root,
-            self.clock,
-            slot.length,
-            decoder,
-        );
-        self.contexts[who] = context;
+        let mut core = Core {
+            context: self.contexts[who],
+            tables: self.tables,
+            root: u32::from(accepted.plan.partition(who).root),
+            clock: self.clock,
+        };
+        let instructions = run_until(&mut core, words, slot.length, decoder);
+        self.contexts[who] = core.context;
+        self.tables = core.tables;
         let report = Report {
             slot: self.turn,
             partition: slot.partition,
             begin: self.clock,
-            end: ran.clock,
-            instructions: ran.instructions,
-            pc: context.pc,
-            state: context.state,
+            end: core.clock,
+            instructions,
+            pc: core.context.pc,
+            state: core.context.state,
         };
-        self.switch(&accepted.plan, ran.clock);
+        self.switch(&accepted.plan, core.clock);
         deliver(accepted, slot.partition, words);
         Some(report)
     }

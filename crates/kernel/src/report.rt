@@ -19,26 +19,14 @@ pub struct Report {
 // One line: clocks and counts in decimal, addresses in eight hexadecimal digits.
 impl fmt::Display for Report {
     fn fmt<W: fmt::Write>(&self, f: &mut fmt::Formatter<W>) -> fmt::Result {
-        let slot = self.slot;
-        let partition = self.partition;
+        write!(f, "slot {} partition {} ", self.slot, self.partition)?;
         match self.state {
-            State::Ready => {
-                let begin = self.begin;
-                let end = self.end;
-                let instructions = self.instructions;
-                let pc = self.pc;
-                write!(
-                    f,
-                    "slot {slot} partition {partition} from {begin} ended {end} instructions {instructions} pc {pc:08x}"
-                )
-            }
-            State::Stopped { cause, pc } => {
-                let cause = cause.number();
-                write!(
-                    f,
-                    "slot {slot} partition {partition} stopped {cause} at {pc:08x}"
-                )
-            }
+            State::Ready => write!(
+                f,
+                "from {} ended {} instructions {} pc {:08x}",
+                self.begin, self.end, self.instructions, self.pc
+            ),
+            State::Stopped { cause, pc } => write!(f, "stopped {} at {pc:08x}", cause.number()),
         }
     }
 }

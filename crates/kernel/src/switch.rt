@@ -10,14 +10,10 @@ use words::frames;
 fn ends_at(ends: &[Ends], k: u8) -> Ends
     ensures { result ≡ slice_index_or ends.now k no_ends }
 {
-    if (k as usize) < ends.len() {
-        ends[k as usize]
-    } else {
-        Ends {
-            sender: 0,
-            receiver: 0,
-        }
-    }
+    ends.get(usize::from(k)).copied().unwrap_or(Ends {
+        sender: 0,
+        receiver: 0,
+    })
 }
 
 fn carry(accepted: &Accepted, who: u8, k: u8, words: &mut [u32])

@@ -3,7 +3,6 @@ use crate::machine::Machine;
 use crate::switch::deliver;
 use checker::Accepted;
 use checker::pages::Ends;
-use hart::context::State;
 use isa::decoder::Decoder;
 use plan::model::{Channel, Counts, Endpoint, Partition, Plan, Slot};
 use std::test::Fail;
@@ -68,7 +67,7 @@ fn a_slot(rt: HostRuntime) -> Result<(), Fail> {
         let report = report.ok_or("no slot")?;
         assert_eq!(rt; (report.begin, report.end), (0, 128));
         assert_eq!(rt; (report.instructions, report.pc), (instructions, START));
-        assert_eq!(rt; matches!(report.state, State::Ready), ready);
+        assert_eq!(rt; report.state.is_ready(), ready);
         assert_eq!(rt; (machine.turn, machine.clock), (1, 128 + 730));
     }
     Ok(())

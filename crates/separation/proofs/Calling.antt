@@ -9,7 +9,8 @@ use Rattle.checker.specs.Found.{FirstFound, Sound}
 use Rattle.checker.proofs.Judged.{accepted_sound, judged, lawful_accepted}
 use Rattle.kernel.specs.declared.machine.Machine.{Machine}
 use Rattle.kernel.specs.declared.report.Report.{Report}
-use Rattle.kernel.specs.Machine.{System, after_slot, after_slots, context_of, fresh, fresh_at, loaded, system}
+use Rattle.hart.specs.Execution.{fresh}
+use Rattle.kernel.specs.Machine.{System, after_slot, after_slots, context_of, fresh_at, loaded, system}
 use Rattle.kernel.specs.Reports.{slot_report}
 use Rattle.separation.specs.declared.face.Kernel.{Kernel}
 use Rattle.separation.specs.Agreement.{Agree, In}

@@ -15,7 +15,8 @@ use Rattle.plan.specs.Timetable.{begins}
 use Rattle.checker.specs.declared.Accepted.{Accepted}
 use Rattle.checker.specs.Found.{Behind}
 use Rattle.checker.specs.Lawful.{root}
-use Rattle.kernel.specs.Machine.{System, after_slot, can_run, coming, ended, entered, fresh, inside_after, slot_end, slot_ran, who_runs}
+use Rattle.hart.specs.Execution.{fresh}
+use Rattle.kernel.specs.Machine.{System, after_slot, can_run, coming, ended, entered, inside_after, slot_end, slot_ran, who_runs}
 use Rattle.kernel.specs.Switch.{delivered, ends_of, switch_work}
 use Rattle.kernel.proofs.Turning.{can}
 use Rattle.separation.specs.Promises.{Confined, KeepsPromises, Messages, Progress, SlotPromises, TranslatesThroughout, runs}

@@ -13,7 +13,8 @@ use Rattle.checker.specs.Lawful.{root}
 use Rattle.checker.proofs.Judged.{accepted_sound}
 use Rattle.kernel.specs.declared.report.Report.{Report}
 use Rattle.kernel.specs.Inside.{Inside, beginning, until}
-use Rattle.kernel.specs.Machine.{System, after_slot, after_slots, can_run, coming, context_of, ended, entered, fresh, inside_after, slot_end, who_runs}
+use Rattle.hart.specs.Execution.{fresh}
+use Rattle.kernel.specs.Machine.{System, after_slot, after_slots, can_run, coming, context_of, ended, entered, inside_after, slot_end, who_runs}
 use Rattle.kernel.specs.Reports.{report_of, slot_report}
 use Rattle.kernel.specs.Switch.{delivered}
 use Rattle.separation.specs.Agreement.{Agree, AllBut, In, Noninterference, NotReached, Only, SameInside, SameReport, SameWords, StepByStep, Unseen}

@@ -2,12 +2,9 @@
 #![tactic(auto)]
 
 use anyhow::anyhow;
-use hart::context::{Context, State};
-use hart::step::step_with;
+use hart::step::Core;
 use isa::decoder::Decoder;
-use isa::register::Registers;
 use std::env;
-use tables::Tables;
 use words::frames;
 
 // Page 16 is the code.
@@ -40,19 +37,12 @@ fn lay_out(words: &mut [u32]) {
 
 // The clock after so many instructions.
 fn run(words: &mut [u32], count: u64) -> u64 {
-    let mut context = Context {
-        registers: Registers::new(),
-        pc: START,
-        state: State::Ready,
-    };
-    let mut tables = Tables::new();
+    let mut core = Core::new(0, START);
     let mut decoder = Decoder::new();
-    let mut clock = 0u64;
     for _ in 0..count {
-        let cost = step_with(&mut context, &mut tables, words, 0, clock, &mut decoder);
-        clock = clock.wrapping_add(u64::from(cost));
+        core.step_with(words, &mut decoder);
     }
-    clock
+    core.clock
 }
 
 fn main(rt: HostRuntime) -> anyhow::Result<()> {

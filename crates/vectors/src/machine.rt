@@ -1,9 +1,8 @@
 // A hart with five frames of memory.
-use hart::context::{Context, State};
-use hart::step::step_with;
+use hart::context::State;
+use hart::step::Core;
 use isa::decoder::Decoder;
-use isa::register::{Register, Registers};
-use tables::Tables;
+use isa::register::Register;
 use words::frames;
 
 // Page 16 is the code, pages 17 and 18 are data, and page 19 is the code once more.
@@ -26,20 +25,14 @@ const ENTRIES: [(u32, u32, u32); 5] = [
 
 #[derive(Drop)]
 pub struct Machine {
-    context: Context,
-    tables: Tables,
+    core: Core,
     words: [u32; FRAMES * frames::FRAME_WORDS],
-    clock: u64,
     // stays from one vector to the next, with other words at the same addresses
     decoder: Decoder,
 }
 
-fn first_context() -> Context {
-    Context {
-        registers: Registers::new(),
-        pc: CODE,
-        state: State::Ready,
-    }
+fn first_core() -> Core {
+    Core::new(0, CODE)
 }
 
 fn lay_out(words: &mut [u32]) {
@@ -53,40 +46,36 @@ impl Machine {
         let mut words = [0; FRAMES * frames::FRAME_WORDS];
         lay_out(&mut words);
         Machine {
-            context: first_context(),
-            tables: Tables::new(),
+            core: first_core(),
             words,
-            clock: 0,
             decoder: Decoder::new(),
         }
     }
 
     // Registers, counter, tables and clock as at first.
     pub fn restart(&mut self) {
-        self.context = first_context();
-        self.tables.reset();
-        self.clock = 0;
+        self.core = first_core();
     }
 
     pub fn set(&mut self, register: u32, value: u32) {
-        self.context.registers.write(Register::new(register), value);
+        self.core.context.registers.write(Register::new(register), value);
     }
 
     pub fn get(&self, register: u32) -> u32 {
-        self.context.registers.read(Register::new(register))
+        self.core.context.registers.read(Register::new(register))
     }
 
     pub fn pc(&self) -> u32 {
-        self.context.pc
+        self.core.context.pc
     }
 
     pub fn go_to(&mut self, pc: u32) {
-        self.context.pc = pc;
+        self.core.context.pc = pc;
     }
 
     // The number of the cause, where the program stopped.
     pub fn cause(&self) -> Option<u32> {
-        match self.context.state {
+        match self.core.context.state {
             State::Ready => None,
             State::Stopped { cause, .. } => Some(u32::from(cause.number())),
         }
@@ -112,16 +101,7 @@ impl Machine {
 
     // One instruction: its cycles.
     pub fn step(&mut self) -> u32 {
-        let cost = step_with(
-            &mut self.context,
-            &mut self.tables,
-            &mut self.words,
-            0,
-            self.clock,
-            &mut self.decoder,
-        );
-        self.clock = self.clock.wrapping_add(u64::from(cost));
-        cost
+        self.core.step_with(&mut self.words, &mut self.decoder)
     }
 
     // Puts the words at the start and runs so many instructions: what the register holds then, none where the program stopped.

@@ -1,15 +1,10 @@
 use Rattle.std.proofs.Common.{◌≡◌, get_or, Some, sym, ap, ◌∙◌, arith, rules}
 use borrow.Author.Rules.{get_or_read}
 use Rattle.plan.specs.declared.model.Slot.{Slot}
-use Rattle.kernel.specs.Inside.{Inside}
-use Rattle.kernel.specs.Machine.{after_slot, context_of, ended, system}
-use Rattle.kernel.specs.Reports.{slot_report}
-use Rattle.kernel.proofs.Turning.{can, inside_is, machine_after, same_end, told, words_after}
+use Rattle.kernel.specs.Inside.{Inside, inside}
+use Rattle.kernel.specs.Machine.{context_of, ended, system}
+use Rattle.kernel.proofs.Turning.{can, machine_after, same_end, told, words_after}
 use Rattle.kernel.proofs.machine.Machine.run_slot.Goals as goal
-
-pub returns-then-who-ge-PARTITIONS : goal.returns-then-who-ge-PARTITIONS
-unfolding after_slot slot_report
-returns-then-who-ge-PARTITIONS c = search rules
 
 pub returns : goal.returns
 returns c =
@@ -17,13 +12,12 @@ returns c =
     let m = c.args.self.now in
     let ws = c.args.words.now in
     let slot = c.slot_of-slot.result in
-    let e = c.run_until-ran.ensures in
+    let core = c.run_until-instructions.new.core in
+    let x = inside core c.run_until-instructions.new.words c.run_until-instructions.result in
     let read : c.index-self-who.result ≡ context_of m slot.partition = search (rules, get_or_read) in
     let goes = can a.plan m slot c.slot_of-slot.ensures (omega arith) (omega arith) (omega arith) in
-    let end = same_end a.plan m ws slot c.partition.result c.from-root.result (get_or m.contexts slot.partition c.index-self-who.result) c.slot_of-slot.ensures c.partition.ensures c.from-root.ensures (sym c.index-self-who.is ∙ read) in
-    let x : Inside = record { context = c.run_until-ran.new.context; tables = c.run_until-ran.new.tables; words = c.run_until-ran.new.words; clock = c.run_until-ran.result.clock; instructions = c.run_until-ran.result.instructions } in
-    let ends : x ≡ ended a.plan (system m ws) =
-    inside_is x.context x.tables x.words x.clock x.instructions _ e.context e.tables e.words e.clock e.instructions ∙ end in
+    let end = same_end a.plan m ws slot c.partition.result c.from.result (get_or m.contexts slot.partition c.index-self-who.result) c.slot_of-slot.ensures c.partition.ensures c.from.ensures (sym c.index-self-who.is ∙ read) in
+    let ends : x ≡ ended a.plan (system m ws) = c.run_until-instructions.ensures.ran ∙ end in
     record {
       value = ap (λ (s : Slot). Some (record { slot = m.turn; partition = s.partition; begin = m.clock; end = x.clock; instructions = x.instructions; pc = x.context.pc; state = x.context.state })) c.slot_of-slot.ensures ∙ told a m ws x goes ends;
       machine = c.switch.ensures ∙ machine_after a m ws x goes ends slot c.slot_of-slot.ensures;

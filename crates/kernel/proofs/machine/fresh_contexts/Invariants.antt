@@ -1,7 +1,0 @@
-use Rattle.std.proofs.Common.{◌≡◌}
-use Rattle.plan.specs.Format.{rows}
-use Rattle.kernel.specs.Machine.{fresh, fresh_at}
-use Rattle.kernel.proofs.machine.fresh_contexts.Given as goal
-
-abbrev pub invariant-loop-k : goal.invariant-loop-k
-invariant-loop-k l = l.contexts ≡ rows (fresh_at l.plan) (fresh 0) 8 l.k
