@@ -9,6 +9,7 @@ use plan::refusal::Refusal;
 use words::frames::is_lent;
 
 // `named` and `kernel` of the partition, `others` and `tables` of those before it.
+#[tactic(auto, unfolding(crate::specs::Sharing::clash))]
 fn clashes(named: bool, kernel: bool, others: bool, tables: bool) -> bool
     ensures { result ≡ clash named kernel others tables }
 {
