@@ -3,3 +3,4 @@ pub mod Numbers
 pub mod Frame
 pub mod Signs
 pub mod First
+pub mod Chains
