@@ -90,12 +90,7 @@ fn meets(words: &[u32], plan: &Plan, ours: Ends, j: u8) -> bool
 fn is_taken(words: &[u32], plan: &Plan, ours: Ends, k: u8) -> bool
     ensures { result ≡ any (meets words.now plan.now ours) k }
 {
-    for j in 0..k {
-        if meets(words, plan, ours, j) {
-            return true;
-        }
-    }
-    false
+    (0..k).any(|j| meets(words, plan, ours, j))
 }
 
 #[tactic(auto, unfolding(crate::specs::Pages::page_fault))]
@@ -119,10 +114,7 @@ fn check_pages_of(words: &[u32], plan: &Plan, k: u8) -> Result<(), Refusal>
 pub(crate) fn check_pages(words: &[u32], plan: &Plan) -> Result<(), Refusal>
     ensures { result ≡ unless (first (page_refusal words.now plan.now) plan.now.counts.channels) tt }
 {
-    for k in 0..plan.counts.channels {
-        check_pages_of(words, plan, k)?;
-    }
-    Ok(())
+    (0..plan.counts.channels).try_for_each(|k| check_pages_of(words, plan, k))
 }
 
 #[tactic(auto, unfolding(crate::specs::Pages::ends_or_none))]

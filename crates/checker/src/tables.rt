@@ -22,12 +22,7 @@ fn is_bad(entry: Entry) -> bool
 fn is_bad_table(words: &[u32], table: u32) -> bool
     ensures { result ≡ bad_table words.now table }
 {
-    for k in 0..ENTRIES {
-        if is_bad(Entry(read(words, table, k))) {
-            return true;
-        }
-    }
-    false
+    (0..ENTRIES).any(|k| is_bad(Entry(read(words, table, k))))
 }
 
 #[tactic(auto, unfolding(crate::specs::Tables::table_fault))]
@@ -103,8 +98,5 @@ fn check_tables_of(words: &[u32], plan: &Plan, k: u8) -> Result<(), Refusal>
 pub(crate) fn check_tables(words: &[u32], plan: &Plan) -> Result<(), Refusal>
     ensures { result ≡ unless (first (table_refusal words.now plan.now) plan.now.counts.partitions) tt }
 {
-    for k in 0..plan.counts.partitions {
-        check_tables_of(words, plan, k)?;
-    }
-    Ok(())
+    (0..plan.counts.partitions).try_for_each(|k| check_tables_of(words, plan, k))
 }
