@@ -5,6 +5,7 @@ ghost use Rattle.std.specs.Prelude.{◌≡◌};
 ghost use Rattle.checker.specs.Checked.{TellsAll, checked};
 ghost use Rattle.checker.specs.Found.{AcceptedSeparate, AcceptedUnshared, CheckedJudges, Judges};
 
+pub mod claims;
 pub mod fault;
 pub mod marks;
 pub mod pages;

@@ -1,10 +1,10 @@
 // The rule on the form of page tables: every valid entry of a root points to a table, and every valid entry of a table is a leaf.
-ghost use Rattle.std.specs.Prelude.{◌≡◌, length};
+ghost use Rattle.std.specs.Prelude.{◌≡◌};
 ghost use Rattle.words.specs.First.{first, unless};
 ghost use Rattle.checker.specs.Tables.{Known, bad_leaf, bad_table, entry_fault, entry_fault_at, root_fault, table_fault, table_refusal};
 
 use crate::fault::{Fault, check_frame};
-use crate::marks::{is_marked, mark};
+use crate::marks::Marks;
 use paging::entry::Entry;
 use paging::walk::MOST_FRAMES;
 use plan::model::Plan;
@@ -37,22 +37,22 @@ fn check_table(words: &[u32], table: u32) -> Result<(), Fault>
 }
 
 // `known` marks tables that were read and found without fault: each of them is read once.
-fn check_unless_known(words: &[u32], table: u32, known: &mut [bool]) -> Result<(), Fault>
-    requires { (length known.old ≡ 256) × (Known words.now known.old) }
+fn check_unless_known(words: &[u32], table: u32, known: &mut Marks) -> Result<(), Fault>
+    requires { Known words.now known.old }
     ensures value { result ≡ unless (table_fault words.now table) tt }
     ensures known { Known words.now known.new }
 {
-    if is_marked(known, table) {
+    if known.has(table) {
         return Ok(());
     }
     check_table(words, table)?;
-    mark(known, table);
+    known.mark(table);
     Ok(())
 }
 
 #[tactic(auto, unfolding(crate::specs::Tables::entry_fault))]
-fn check_entry(words: &[u32], root: u32, k: u32, known: &mut [bool]) -> Result<(), Fault>
-    requires { (length known.old ≡ 256) × (Known words.now known.old) }
+fn check_entry(words: &[u32], root: u32, k: u32, known: &mut Marks) -> Result<(), Fault>
+    requires { Known words.now known.old }
     ensures value { result ≡ unless (entry_fault_at words.now root k) tt }
     ensures known { Known words.now known.new }
 {
@@ -69,7 +69,7 @@ fn check_entry(words: &[u32], root: u32, k: u32, known: &mut [bool]) -> Result<(
 fn check_entries(words: &[u32], root: u32) -> Result<(), Fault>
     ensures { result ≡ unless (first (entry_fault_at words.now root) 1024) tt }
 {
-    let mut known = [false; 256];
+    let mut known = Marks::NONE;
     for k in 0..ENTRIES {
         check_entry(words, root, k, &mut known)?;
     }

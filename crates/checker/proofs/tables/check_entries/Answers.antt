@@ -1,4 +1,4 @@
-use Rattle.std.proofs.Common.{false, sym, refl, ◌∙◌, arith, rules}
+use Rattle.std.proofs.Common.{false, sym, ◌∙◌, arith}
 use Rattle.std.proofs.lemmas.List.{get_or-replicate}
 use Rattle.std.proofs.lemmas.Bool.{true≢false}
 use Rattle.std.proofs.lemmas.Result.{err_from_is_err_and}
@@ -10,7 +10,6 @@ pub loop-k-init : goal.loop-k-init
 loop-k-init c = (
   first_none (entry_fault_at c.args.words.now c.args.root),
   (λ f l e. absurd (true≢false (sym e ∙ get_or-replicate 256 f false false l))),
-  refl,
 )
 
 pub returns-in_err-check_entry : goal.returns-in_err-check_entry
@@ -22,7 +21,6 @@ pub loop-k-preserved : goal.loop-k-preserved
 loop-k-preserved c = (
   checked_more (entry_fault_at c.args.words.now c.args.root) c.loop-k.k tt c.in_ok-check_entry.field-0 c.loop-k.invariant.0 (sym c.check_entry.ensures.value ∙ c.in_ok-check_entry.was),
   c.check_entry.ensures.known,
-  search rules,
 )
 
 pub returns : goal.returns
