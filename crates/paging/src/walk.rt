@@ -9,7 +9,7 @@ use words::frames::{FRAME_WORDS, is_lent, read};
 
 pub const MOST_FRAMES: u32 = 256;
 // A table fills a frame.
-const ENTRIES: u32 = FRAME_WORDS as u32;
+pub const ENTRIES: u32 = FRAME_WORDS as u32;
 
 // Whether a walk may go to the frame: it is below 256, and all of its words are lent.
 pub fn has_frame(words: &[u32], frame: u32) -> bool
