@@ -32,12 +32,13 @@ impl Claims {
         ensures named { Shows result.named (names words.now root) }
         ensures kernel { Shows result.kernel (kernel_test words.now root) }
     {
-        let mut claims = Claims::NONE;
-        let tables = Marks::of_tables(words, root);
-        claims.named.mark_tables(words, &tables);
-        claims.kernel = tables;
-        claims.kernel.mark(root);
-        claims
+        let tables = Marks::tables(words, root);
+        let mut kernel = tables;
+        kernel.mark(root);
+        Claims {
+            named: Marks::named(words, &tables),
+            kernel,
+        }
     }
 
     pub(crate) fn add(&mut self, more: &Claims)

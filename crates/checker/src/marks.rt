@@ -5,11 +5,9 @@ ghost use Rattle.words.specs.First.{any};
 ghost use Rattle.checker.specs.Marks.{Shows, marked, named_through, passes, pointed};
 
 use paging::entry::Entry;
-use paging::walk::MOST_FRAMES;
+use paging::walk::{ENTRIES, MOST_FRAMES};
 use std::array;
-use words::frames::{FRAME_WORDS, read};
-
-const ENTRIES: u32 = FRAME_WORDS as u32;
+use words::frames::read;
 
 const FRAMES: usize = MOST_FRAMES as usize;
 
@@ -58,7 +56,7 @@ impl Marks {
     }
 
     // The tables that a root points to.
-    pub(crate) fn of_tables(words: &[u32], root: u32) -> Marks
+    pub(crate) fn tables(words: &[u32], root: u32) -> Marks
         ensures { Shows result (pointed words.now root) }
     {
         let mut tables = Marks::NONE;
@@ -66,14 +64,16 @@ impl Marks {
         tables
     }
 
-    // Marks what the marked tables name.
-    pub(crate) fn mark_tables(&mut self, words: &[u32], tables: &Marks)
-        ensures { Shows self.new (λ f. marked self.old f || any (named_through words.now tables.now f) 256) }
+    // The frames that the marked tables name.
+    pub(crate) fn named(words: &[u32], tables: &Marks) -> Marks
+        ensures { Shows result (λ f. any (named_through words.now tables.now f) 256) }
     {
+        let mut named = Marks::NONE;
         for table in 0..MOST_FRAMES {
             if tables.has(table) {
-                self.mark_entries(words, table, |entry| entry.is_valid());
+                named.mark_entries(words, table, |entry| entry.is_valid());
             }
         }
+        named
     }
 }

@@ -8,13 +8,11 @@ ghost use Rattle.checker.specs.Pages.{behind, end_frame, ends_or_none, looked_up
 use crate::fault::{Fault, check_frame};
 use paging::entry::Entry;
 use paging::leaf::Leaf;
-use paging::walk::MOST_FRAMES;
+use paging::walk::{ENTRIES, MOST_FRAMES};
 use plan::model::{Channel, Endpoint, Plan};
 use plan::refusal::Refusal;
 use std::array;
-use words::frames::{FRAME_WORDS, read};
-
-const ENTRIES: u32 = FRAME_WORDS as u32;
+use words::frames::read;
 
 // The frames behind the two pages of a channel.
 #[derive(Clone, Copy, PartialEq, Eq, Debug, Default)]

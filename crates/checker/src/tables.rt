@@ -6,12 +6,10 @@ ghost use Rattle.checker.specs.Tables.{Known, bad_leaf, bad_table, entry_fault, 
 use crate::fault::{Fault, check_frame};
 use crate::marks::Marks;
 use paging::entry::Entry;
-use paging::walk::MOST_FRAMES;
+use paging::walk::{ENTRIES, MOST_FRAMES};
 use plan::model::Plan;
 use plan::refusal::Refusal;
-use words::frames::{FRAME_WORDS, is_lent, read};
-
-const ENTRIES: u32 = FRAME_WORDS as u32;
+use words::frames::{is_lent, read};
 
 fn is_bad(entry: Entry) -> bool
     ensures { result ≡ bad_leaf entry.0 }

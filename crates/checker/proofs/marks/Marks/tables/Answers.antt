@@ -2,7 +2,7 @@ use Rattle.std.proofs.Common.{◌∙◌, rules}
 use Rattle.paging.specs.Entries.{is_pointer}
 use Rattle.checker.specs.Marks.{pointed}
 use Rattle.checker.proofs.Marked.{blank_marks}
-use Rattle.checker.proofs.marks.Marks.of_tables.Goals as goal
+use Rattle.checker.proofs.marks.Marks.tables.Goals as goal
 
 pub returns : goal.returns
 unfolding pointed
