@@ -23,3 +23,6 @@ module _ (bytes words image : List ℕ) where
   pub verdict : Admits bytes words image (admitted bytes words image)
   unfolding admitted
   verdict = at_plan (checked bytes words) refl (judged bytes words)
+
+pub verdict_as : (bytes words image : List ℕ) (r : Result Accepted Refusal) → r ≡ admitted bytes words image → Admits bytes words image r
+verdict_as bytes words image r e = rw e (verdict bytes words image)

@@ -9,15 +9,10 @@ use image::check as check_image;
 use plan::refusal::Refusal;
 
 // The verdict on a plan, the words lent to it, and the image that they were loaded from, whose own rules come last.
+#[tactic(auto, unfolding(crate::specs::Admitted::admitted), using(crate::proofs::Verdict::verdict_as))]
 pub fn admit(plan: &[u8], words: &[u32], image: &[u8]) -> Result<Accepted, Refusal>
     ensures value { result ≡ admitted plan.now words.now image.now }
     ensures verdict { Admits plan.now words.now image.now result }
-{
-    first_refusal(plan, words, image)
-}
-
-fn first_refusal(plan: &[u8], words: &[u32], image: &[u8]) -> Result<Accepted, Refusal>
-    ensures { result ≡ admitted plan.now words.now image.now }
 {
     let accepted = check_plan(plan, words)?;
     check_image(image)?;

@@ -9,3 +9,4 @@ pub mod Joined
 pub mod Staged
 pub mod Judged
 pub mod Front
+pub mod Made

@@ -1,12 +1,24 @@
 -- Which frames are kernel frames of a root, and which its tables name, as tests.
-use Rattle.std.specs.Prelude.{ℕ, Bool, false, ◌&&◌, ◌||◌, List, ◌==◌, slice_index_or}
+use Rattle.std.specs.Prelude.{◌≡◌, ℕ, ◌<◌, Bool, false, ◌&&◌, ◌||◌, List, ◌==◌, slice_index_or}
 use Rattle.words.specs.First.{any}
 use Rattle.words.specs.Frames.{word}
 use Rattle.paging.specs.Entries.{frame_of, is_pointer, is_valid}
+use Rattle.checker.specs.declared.marks.Marks.{Marks}
+
+abbrev pub marked : Marks → ℕ → Bool
+marked m frame = slice_index_or m.marks frame false
+
+-- the marked frames are those that pass a test
+abbrev pub Shows : Marks → (ℕ → Bool) → Type 0
+Shows m test = (f : ℕ) → f < 256 → marked m f ≡ test f
+
+-- entry k of a table passes a test and has the frame
+abbrev pub passes : (ℕ → Bool) → List ℕ → ℕ → ℕ → ℕ → Bool
+passes test words table frame k = test (word words table k) && frame_of (word words table k) == frame
 
 -- entry k of a root points to the frame
 abbrev pub points : List ℕ → ℕ → ℕ → ℕ → Bool
-points words root frame k = is_pointer (word words root k) && frame_of (word words root k) == frame
+points words root = passes is_pointer words root
 
 -- the frame is a table of the root
 unfoldable pub pointed : List ℕ → ℕ → ℕ → Bool
@@ -14,14 +26,14 @@ pointed words root frame = any (points words root frame) 1024
 
 -- entry k of a table names the frame
 abbrev pub named_entry : List ℕ → ℕ → ℕ → ℕ → Bool
-named_entry words table frame k = is_valid (word words table k) && frame_of (word words table k) == frame
+named_entry words table = passes is_valid words table
 
 unfoldable pub names_in : List ℕ → ℕ → ℕ → Bool
 names_in words table frame = any (named_entry words table frame) 1024
 
 -- a marked table names the frame
-abbrev pub named_through : List ℕ → List Bool → ℕ → ℕ → Bool
-named_through words tables frame table = slice_index_or tables table false && names_in words table frame
+abbrev pub named_through : List ℕ → Marks → ℕ → ℕ → Bool
+named_through words tables frame table = marked tables table && names_in words table frame
 
 abbrev pub named_by : List ℕ → ℕ → ℕ → ℕ → Bool
 named_by words root frame table = pointed words root table && names_in words table frame

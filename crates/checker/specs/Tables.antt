@@ -1,5 +1,5 @@
 -- The rule on the form of page tables as tests: entries are read from the first on, and the first at fault decides.
-use Rattle.std.specs.Prelude.{◌≡◌, ℕ, ◌<◌, Bool, true, false, cond, not, ◌&&◌, List, Some, None, Option, nat_lt, slice_index_or}
+use Rattle.std.specs.Prelude.{◌≡◌, ℕ, ◌<◌, Bool, true, false, cond, not, ◌&&◌, List, Some, None, Option, nat_lt}
 use Rattle.words.specs.First.{any, first, or_else}
 use Rattle.words.specs.Frames.{lent, word}
 use Rattle.paging.specs.Entries.{frame_of, is_leaf, is_pointer, is_valid}
@@ -9,7 +9,9 @@ use Rattle.plan.specs.declared.refusal.Refusal.TheVariants.{TableMalformed}
 use Rattle.plan.specs.Rules.{partition}
 use Rattle.checker.specs.declared.fault.Fault.{Fault}
 use Rattle.checker.specs.declared.fault.Fault.TheVariants.{Broken, NotLent}
+use Rattle.checker.specs.declared.marks.Marks.{Marks}
 use Rattle.checker.specs.Faults.{frame_fault, refused_by}
+use Rattle.checker.specs.Marks.{marked}
 
 -- an entry of a table that is valid and no leaf of one of the 256 frames
 abbrev pub bad_leaf : ℕ → Bool
@@ -38,5 +40,5 @@ abbrev pub table_refusal : List ℕ → Plan → ℕ → Option Refusal
 table_refusal words p k = refused_by (TableMalformed k) (root_fault words (partition p k).root)
 
 -- what is marked is a table without fault
-abbrev pub Known : List ℕ → List Bool → Type 0
-Known words marks = (f : ℕ) → f < 256 → slice_index_or marks f false ≡ true → table_fault words f ≡ None
+abbrev pub Known : List ℕ → Marks → Type 0
+Known words marks = (f : ℕ) → f < 256 → marked marks f ≡ true → table_fault words f ≡ None

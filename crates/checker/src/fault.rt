@@ -7,7 +7,7 @@ use paging::walk::MOST_FRAMES;
 use plan::refusal::Refusal;
 use words::frames::is_lent;
 
-#[derive(Clone, Copy)]
+#[derive(Clone, Copy, PartialEq, Eq, Debug)]
 pub enum Fault {
     Broken,
     NotLent,

@@ -1,95 +1,79 @@
-// Marks on the 256 frames: which are kernel frames of a partition, and which its tables name.
-ghost use Rattle.std.specs.Prelude.{◌≡◌, ℕ, ◌<◌, false, ◌&&◌, ◌||◌, length, ◌==◌, nat_lt, slice_index_or};
+// Marks on the 256 frames.
+ghost use Rattle.std.specs.Prelude.{◌≡◌, ℕ, ◌<◌, Bool, ◌&&◌, ◌||◌, true, ◌==◌};
+ghost use Rattle.paging.specs.declared.entry.Entry.{Entry};
 ghost use Rattle.words.specs.First.{any};
-ghost use Rattle.checker.specs.Marks.{kernel_test, names, names_in, named_through, pointed};
+ghost use Rattle.checker.specs.Marks.{Shows, marked, named_through, passes, pointed};
 
 use paging::entry::Entry;
-use paging::walk::MOST_FRAMES;
-use words::frames::{FRAME_WORDS, read};
+use paging::walk::{ENTRIES, MOST_FRAMES};
+use std::array;
+use words::frames::read;
 
-const ENTRIES: u32 = FRAME_WORDS as u32;
+const FRAMES: usize = MOST_FRAMES as usize;
 
-pub(crate) fn is_marked(marks: &[bool], frame: u32) -> bool
-    requires { length marks.now ≡ 256 }
-    ensures { result ≡ (nat_lt frame 256 && slice_index_or marks.now frame false) }
-{
-    frame < MOST_FRAMES && marks[frame as usize]
+#[derive(Clone, Copy)]
+pub(crate) struct Marks {
+    marks: [bool; FRAMES],
 }
 
-pub(crate) fn mark(marks: &mut [bool], frame: u32)
-    requires { length marks.old ≡ 256 }
-    ensures { (f : ℕ) → f < 256 → slice_index_or marks.new f false ≡ (slice_index_or marks.old f false || frame == f) }
-{
-    if frame < MOST_FRAMES {
-        marks[frame as usize] = true;
+impl Marks {
+    pub(crate) const NONE: Marks = Marks {
+        marks: [false; FRAMES],
+    };
+
+    pub(crate) fn has(&self, frame: u32) -> bool
+        ensures value { result ≡ marked self.now frame }
+        ensures below { result ≡ true → frame < 256 }
+    {
+        self.marks.get(frame as usize).copied().unwrap_or(false)
     }
-}
 
-fn mark_if(marks: &mut [bool], test: bool, frame: u32)
-    requires { length marks.old ≡ 256 }
-    ensures { (f : ℕ) → f < 256 → slice_index_or marks.new f false ≡ (slice_index_or marks.old f false || (test && frame == f)) }
-{
-    if test {
-        mark(marks, frame);
+    pub(crate) fn mark(&mut self, frame: u32)
+        ensures { Shows self.new (λ f. marked self.old f || frame == f) }
+    {
+        if frame < MOST_FRAMES {
+            self.marks[frame as usize] = true;
+        }
     }
-}
 
-pub(crate) fn add_marks(marks: &mut [bool], more: &[bool])
-    requires { (length marks.old ≡ 256) × (length more.now ≡ 256) }
-    ensures { (f : ℕ) → f < 256 → slice_index_or marks.new f false ≡ (slice_index_or marks.old f false || slice_index_or more.now f false) }
-{
-    for f in 0..256 {
-        marks[f] = marks[f] || more[f];
+    pub(crate) fn add(&mut self, more: &Marks)
+        ensures { Shows self.new (λ f. marked self.old f || marked more.now f) }
+    {
+        self.marks = array::from_fn(|f| self.marks[f] || more.marks[f]);
     }
-}
 
-fn mark_pointed(words: &[u32], root: u32, marks: &mut [bool])
-    requires { length marks.old ≡ 256 }
-    ensures { (f : ℕ) → f < 256 → slice_index_or marks.new f false ≡ (slice_index_or marks.old f false || pointed words.now root f) }
-{
-    for k in 0..ENTRIES {
-        let entry = Entry(read(words, root, k));
-        mark_if(marks, entry.is_pointer(), entry.frame());
+    // Marks the frames of the entries of a table that pass a test.
+    fn mark_entries<F: Fn(Entry) -> bool>(&mut self, words: &[u32], table: u32, test: F)
+        requires { F.IsAlwaysCallable test }
+        ensures { (by : ℕ → Bool) → ((entry : Entry) (b : Bool) → F.post test entry b → b ≡ by entry.0) → Shows self.new (λ f. marked self.old f || any (passes by words.now table f) 1024) }
+    {
+        for k in 0..ENTRIES {
+            let entry = Entry(read(words, table, k));
+            if test(entry) {
+                self.mark(entry.frame());
+            }
+        }
     }
-}
 
-fn mark_table(words: &[u32], table: u32, named: &mut [bool])
-    requires { length named.old ≡ 256 }
-    ensures { (f : ℕ) → f < 256 → slice_index_or named.new f false ≡ (slice_index_or named.old f false || names_in words.now table f) }
-{
-    for k in 0..ENTRIES {
-        let entry = Entry(read(words, table, k));
-        mark_if(named, entry.is_valid(), entry.frame());
+    // The tables that a root points to.
+    pub(crate) fn tables(words: &[u32], root: u32) -> Marks
+        ensures { Shows result (pointed words.now root) }
+    {
+        let mut tables = Marks::NONE;
+        tables.mark_entries(words, root, |entry| entry.is_pointer());
+        tables
     }
-}
 
-fn mark_table_if(words: &[u32], test: bool, table: u32, named: &mut [bool])
-    requires { length named.old ≡ 256 }
-    ensures { (f : ℕ) → f < 256 → slice_index_or named.new f false ≡ (slice_index_or named.old f false || (test && names_in words.now table f)) }
-{
-    if test {
-        mark_table(words, table, named);
+    // The frames that the marked tables name.
+    pub(crate) fn named(words: &[u32], tables: &Marks) -> Marks
+        ensures { Shows result (λ f. any (named_through words.now tables.now f) 256) }
+    {
+        let mut named = Marks::NONE;
+        for table in 0..MOST_FRAMES {
+            if tables.has(table) {
+                named.mark_entries(words, table, |entry| entry.is_valid());
+            }
+        }
+        named
     }
-}
-
-fn mark_tables(words: &[u32], tables: &[bool], named: &mut [bool])
-    requires { (length tables.now ≡ 256) × (length named.old ≡ 256) }
-    ensures { (f : ℕ) → f < 256 → slice_index_or named.new f false ≡ (slice_index_or named.old f false || any (named_through words.now tables.now f) 256) }
-{
-    for table in 0..MOST_FRAMES {
-        mark_table_if(words, tables[table as usize], table, named);
-    }
-}
-
-// Marks the kernel frames of a root, and the frames that its tables name. Each table is read once.
-pub(crate) fn mark_partition(words: &[u32], root: u32, named: &mut [bool], kernel: &mut [bool])
-    requires { (length named.old ≡ 256) × (length kernel.old ≡ 256) }
-    ensures named { (f : ℕ) → f < 256 → slice_index_or named.new f false ≡ (slice_index_or named.old f false || names words.now root f) }
-    ensures kernel { (f : ℕ) → f < 256 → slice_index_or kernel.new f false ≡ (slice_index_or kernel.old f false || kernel_test words.now root f) }
-{
-    let mut tables = [false; 256];
-    mark_pointed(words, root, &mut tables);
-    mark_tables(words, &tables, named);
-    add_marks(kernel, &tables);
-    mark(kernel, root);
 }

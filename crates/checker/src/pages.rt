@@ -1,6 +1,6 @@
 // The rule on the pages of channels: the sender may read its page, the receiver may read and not write its own,
 // and neither frame is behind a page of another channel.
-ghost use Rattle.std.specs.Prelude.{◌≡◌};
+ghost use Rattle.std.specs.Prelude.{◌≡◌, cond, nat_lt};
 ghost use Rattle.plan.specs.Format.{rows};
 ghost use Rattle.words.specs.First.{any, first, unless};
 ghost use Rattle.checker.specs.Pages.{behind, end_frame, ends_or_none, looked_up, meets, no_ends, page_fault, page_refusal, touch};
@@ -8,26 +8,20 @@ ghost use Rattle.checker.specs.Pages.{behind, end_frame, ends_or_none, looked_up
 use crate::fault::{Fault, check_frame};
 use paging::entry::Entry;
 use paging::leaf::Leaf;
-use paging::walk::MOST_FRAMES;
-use plan::model::{Channel, Endpoint, MOST_CHANNELS, Plan};
+use paging::walk::{ENTRIES, MOST_FRAMES};
+use plan::model::{Channel, Endpoint, Plan};
 use plan::refusal::Refusal;
-use words::frames::{FRAME_WORDS, read};
-
-const ENTRIES: u32 = FRAME_WORDS as u32;
+use std::array;
+use words::frames::read;
 
 // The frames behind the two pages of a channel.
-#[derive(Clone, Copy)]
+#[derive(Clone, Copy, PartialEq, Eq, Debug, Default)]
 pub struct Ends {
     pub sender: u32,
     pub receiver: u32,
 }
 
 impl Ends {
-    const NONE: Ends = Ends {
-        sender: 0,
-        receiver: 0,
-    };
-
     // Whether one frame is behind a page of both.
     fn touch(self, other: Ends) -> bool
         ensures { result ≡ touch self other }
@@ -40,6 +34,7 @@ impl Ends {
 }
 
 // The leaf of a page. Its frame is not read, so it need not be lent.
+#[tactic(auto, unfolding(crate::specs::Pages::looked_up))]
 fn look_up(words: &[u32], root: u32, page: u32) -> Result<Leaf, Fault>
     ensures { result ≡ looked_up words.now root page }
 {
@@ -53,19 +48,14 @@ fn look_up(words: &[u32], root: u32, page: u32) -> Result<Leaf, Fault>
         return Err(Fault::Broken);
     }
     check_frame(words, entry.frame())?;
-    match Entry(read(words, entry.frame(), low)).leaf() {
-        Some(leaf) => {
-            if leaf.frame < MOST_FRAMES {
-                Ok(leaf)
-            } else {
-                Err(Fault::Broken)
-            }
-        }
-        None => Err(Fault::Broken),
-    }
+    Entry(read(words, entry.frame(), low))
+        .leaf()
+        .filter(|leaf| leaf.frame < MOST_FRAMES)
+        .ok_or(Fault::Broken)
 }
 
 // The frame behind a page that may be read, and, where it receives, not written.
+#[tactic(auto, unfolding(crate::specs::Pages::end_frame))]
 fn end_frame(words: &[u32], plan: &Plan, end: Endpoint, receives: bool) -> Result<u32, Fault>
     ensures { result ≡ end_frame words.now plan.now end receives }
 {
@@ -78,6 +68,7 @@ fn end_frame(words: &[u32], plan: &Plan, end: Endpoint, receives: bool) -> Resul
     }
 }
 
+#[tactic(auto, unfolding(crate::specs::Pages::behind))]
 fn behind(words: &[u32], plan: &Plan, k: u8) -> Result<Ends, Fault>
     ensures { result ≡ behind words.now plan.now k }
 {
@@ -87,66 +78,57 @@ fn behind(words: &[u32], plan: &Plan, k: u8) -> Result<Ends, Fault>
     Ok(Ends { sender, receiver })
 }
 
+#[tactic(auto, unfolding(crate::specs::Pages::meets))]
 fn meets(words: &[u32], plan: &Plan, ours: Ends, j: u8) -> bool
     ensures { result ≡ meets words.now plan.now ours j }
 {
-    match behind(words, plan, j) {
-        Ok(theirs) => ours.touch(theirs),
-        Err(_) => false,
-    }
+    behind(words, plan, j).is_ok_and(|theirs| ours.touch(theirs))
 }
 
 fn is_taken(words: &[u32], plan: &Plan, ours: Ends, k: u8) -> bool
     ensures { result ≡ any (meets words.now plan.now ours) k }
 {
-    for j in 0..k {
-        if meets(words, plan, ours, j) {
-            return true;
-        }
-    }
-    false
+    (0..k).any(|j| meets(words, plan, ours, j))
 }
 
-fn fault_of_pages(words: &[u32], plan: &Plan, k: u8) -> Option<Fault>
-    ensures { result ≡ page_fault words.now plan.now k }
+#[tactic(auto, unfolding(crate::specs::Pages::page_fault))]
+fn check_pages_at(words: &[u32], plan: &Plan, k: u8) -> Result<(), Fault>
+    ensures { result ≡ unless (page_fault words.now plan.now k) tt }
 {
-    match behind(words, plan, k) {
-        Ok(ours) => {
-            if is_taken(words, plan, ours, k) {
-                Some(Fault::Broken)
-            } else {
-                None
-            }
-        }
-        Err(fault) => Some(fault),
+    let ours = behind(words, plan, k)?;
+    if is_taken(words, plan, ours, k) {
+        return Err(Fault::Broken);
     }
+    Ok(())
 }
 
 fn check_pages_of(words: &[u32], plan: &Plan, k: u8) -> Result<(), Refusal>
     ensures { result ≡ unless (page_refusal words.now plan.now k) tt }
 {
-    match fault_of_pages(words, plan, k) {
-        None => Ok(()),
-        Some(fault) => Err(fault.refusal(Refusal::ChannelPage(k))),
-    }
+    check_pages_at(words, plan, k).map_err(|fault| fault.refusal(Refusal::ChannelPage(k)))
 }
 
 // Whether both partitions of every channel may use its pages as said.
 pub(crate) fn check_pages(words: &[u32], plan: &Plan) -> Result<(), Refusal>
     ensures { result ≡ unless (first (page_refusal words.now plan.now) plan.now.counts.channels) tt }
 {
-    for k in 0..plan.counts.channels {
-        check_pages_of(words, plan, k)?;
-    }
-    Ok(())
+    (0..plan.counts.channels).try_for_each(|k| check_pages_of(words, plan, k))
 }
 
+#[tactic(auto, unfolding(crate::specs::Pages::ends_or_none))]
 fn ends_or_none(words: &[u32], plan: &Plan, k: u8) -> Ends
     ensures { result ≡ ends_or_none words.now plan.now k }
 {
-    match behind(words, plan, k) {
-        Ok(ends) => ends,
-        Err(_) => Ends::NONE,
+    behind(words, plan, k).unwrap_or_default()
+}
+
+fn ends_or_blank(words: &[u32], plan: &Plan, k: usize) -> Ends
+    ensures { result ≡ cond (nat_lt k plan.now.counts.channels) (ends_or_none words.now plan.now k) no_ends }
+{
+    if k < plan.counts.channels as usize {
+        ends_or_none(words, plan, k as u8)
+    } else {
+        Ends::default()
     }
 }
 
@@ -154,9 +136,5 @@ fn ends_or_none(words: &[u32], plan: &Plan, k: u8) -> Ends
 pub(crate) fn all_ends(words: &[u32], plan: &Plan) -> [Ends; 16]
     ensures { result ≡ rows (ends_or_none words.now plan.now) no_ends 16 plan.now.counts.channels }
 {
-    let mut all = [Ends::NONE; MOST_CHANNELS];
-    for k in 0..MOST_CHANNELS.min(plan.counts.channels as usize) {
-        all[k] = ends_or_none(words, plan, k as u8);
-    }
-    all
+    array::from_fn(|k| ends_or_blank(words, plan, k))
 }

@@ -12,12 +12,7 @@ fn root_is_taken(plan: &Plan, k: u8) -> bool
     ensures { result ≡ any (same_root plan.now k) k }
 {
     let root = plan.partition(k as usize).root;
-    for j in 0..k {
-        if plan.partition(j as usize).root == root {
-            return true;
-        }
-    }
-    false
+    (0..k).any(|j| plan.partition(j as usize).root == root)
 }
 
 fn check_root(words: &[u32], plan: &Plan, k: u8) -> Result<(), Refusal>
@@ -37,8 +32,5 @@ fn check_root(words: &[u32], plan: &Plan, k: u8) -> Result<(), Refusal>
 pub(crate) fn check_roots(words: &[u32], plan: &Plan) -> Result<(), Refusal>
     ensures { result ≡ unless (first (root_refusal words.now plan.now) plan.now.counts.partitions) tt }
 {
-    for k in 0..plan.counts.partitions {
-        check_root(words, plan, k)?;
-    }
-    Ok(())
+    (0..plan.counts.partitions).try_for_each(|k| check_root(words, plan, k))
 }

@@ -1,13 +1,10 @@
 use Rattle.std.proofs.Common.{true, false, sym, ap, ◌∙◌}
 use Rattle.words.specs.First.{unless}
-use Rattle.checker.proofs.Marked.{blank_marks}
 use Rattle.checker.proofs.Shares.{missing_here}
 use Rattle.checker.proofs.sharing.check_lent.Goals as goal
 
 pub returns-then-has_missing : goal.returns-then-has_missing
-returns-then-has_missing c =
-    ap (λ o. unless o tt) (sym (missing_here c.args.words.now c.args.plan.now c.mark_all.new.named true (λ f l. c.mark_all.ensures f l ∙ blank_marks _ f l) (sym c.if-has_missing.true ∙ c.has_missing.ensures)))
+returns-then-has_missing c = ap (λ o. unless o tt) (sym (missing_here c.args.words.now c.args.plan.now c.all_named.result true c.all_named.ensures (sym c.if-has_missing.true ∙ c.has_missing.ensures)))
 
 pub returns : goal.returns
-returns c =
-    ap (λ o. unless o tt) (sym (missing_here c.args.words.now c.args.plan.now c.mark_all.new.named false (λ f l. c.mark_all.ensures f l ∙ blank_marks _ f l) (sym c.if-has_missing.false ∙ c.has_missing.ensures)))
+returns c = ap (λ o. unless o tt) (sym (missing_here c.args.words.now c.args.plan.now c.all_named.result false c.all_named.ensures (sym c.if-has_missing.false ∙ c.has_missing.ensures)))

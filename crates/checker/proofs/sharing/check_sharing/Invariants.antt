@@ -1,4 +1,4 @@
-use Rattle.std.proofs.Common.{◌≡◌, length, None}
+use Rattle.std.proofs.Common.{◌≡◌, None}
 use Rattle.words.specs.First.{first}
 use Rattle.checker.specs.Sharing.{share_refusal, Joined, named_at, kernel_at}
 use Rattle.checker.proofs.sharing.check_sharing.Given as goal
@@ -6,6 +6,5 @@ use Rattle.checker.proofs.sharing.check_sharing.Given as goal
 abbrev pub invariant-loop-k : goal.invariant-loop-k
 invariant-loop-k l =
     (first (share_refusal l.words l.plan) l.k ≡ None)
-    × Joined (named_at l.words l.plan) l.others l.k
-    × Joined (kernel_at l.words l.plan) l.tables l.k
-    × (length l.others ≡ 256) × (length l.tables ≡ 256)
+    × Joined (named_at l.words l.plan) l.earlier.named l.k
+    × Joined (kernel_at l.words l.plan) l.earlier.kernel l.k

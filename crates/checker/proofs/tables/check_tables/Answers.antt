@@ -1,19 +1,7 @@
-use Rattle.std.proofs.Common.{sym, ◌∙◌, arith}
-use Rattle.std.proofs.lemmas.Result.{err_from_is_err_and}
-use Rattle.words.proofs.First.{first_none, checked_more, checked_stops, checked_all}
+use Rattle.std.proofs.Common.{refl, rules}
+use Rattle.words.proofs.Chains.{first_over_range}
 use Rattle.checker.specs.Tables.{table_refusal}
 use Rattle.checker.proofs.tables.check_tables.Goals as goal
 
-pub loop-k-init : goal.loop-k-init
-loop-k-init c = first_none (table_refusal c.args.words.now c.args.plan.now)
-
-pub loop-k-preserved : goal.loop-k-preserved
-loop-k-preserved c = checked_more (table_refusal c.args.words.now c.args.plan.now) c.loop-k.k tt c.in_ok-check_tables_of.field-0 c.loop-k.invariant (sym c.check_tables_of.ensures ∙ c.in_ok-check_tables_of.was)
-
-pub returns-in_err-check_tables_of : goal.returns-in_err-check_tables_of
-returns-in_err-check_tables_of c =
-    let p = err_from_is_err_and c.from_residual.result c.from_residual.ensures.1 in
-    rw (p.1, p.2) (sym (checked_stops (table_refusal c.args.words.now c.args.plan.now) c.loop-k.k c.args.plan.now.counts.partitions tt c.in_err-check_tables_of.field-0.0 c.loop-k-test.true c.loop-k.invariant (sym c.check_tables_of.ensures ∙ c.in_err-check_tables_of.was)))
-
 pub returns : goal.returns
-returns c = sym (checked_all (table_refusal c.args.words.now c.args.plan.now) c.loop-k.k c.args.plan.now.counts.partitions tt c.loop-k.invariant (omega arith))
+returns c = first_over_range (table_refusal c.args.words.now c.args.plan.now) c.args.plan.now.counts.partitions refl c.try_for_each.ensures.ran (λ k v q z. search rules)

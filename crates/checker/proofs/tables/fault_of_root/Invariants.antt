@@ -1,7 +1,0 @@
-use Rattle.std.proofs.Common.{◌≡◌, length, None}
-use Rattle.words.specs.First.{first}
-use Rattle.checker.specs.Tables.{Known, entry_fault_at}
-use Rattle.checker.proofs.tables.fault_of_root.Given as goal
-
-abbrev pub invariant-loop-k : goal.invariant-loop-k
-invariant-loop-k l = (first (entry_fault_at l.words l.root) l.k ≡ None) × Known l.words l.known × (length l.known ≡ 256)
