@@ -1,63 +1,47 @@
 // The words of the command line.
-ghost use Rattle.std.specs.Prelude.{◌≡◌, ◌<◌, is_ok, vec_len, string_bytes, Decides, nat_le, nat_lt};
-ghost use Rattle.std.specs.List.{HoldsAt};
-ghost use Rattle.console.specs.Words.{AsksHelp};
+ghost use Rattle.std.specs.Prelude.{◌≡◌, ◌<◌, is_ok, IfOk, IfErr, IsOkUnless, length, string_bytes, Decides, nat_le, nat_lt, HoldsAt};
+ghost use Rattle.console.specs.Words.{AsksHelp, IsSurplus};
 
 use crate::problem::Problem;
 use std::{env, io};
 
 // The words after the program's name.
 pub fn arguments(rt: &HostRuntime) -> io::Result<Vec<String>> {
-    let mut given = env::args(rt)?;
-    let _ = given.next();
-    let mut words = Vec::new(rt.alloc());
-    for word in given {
-        words.push(word)?;
-    }
-    Ok(words)
+    Ok(env::args(rt)?.skip(1).collect(rt.alloc())?)
 }
 
 // The word at a place, which the usage calls by this name.
-pub fn argument<'a>(
-    words: &'a Vec<String>,
-    at: usize,
-    name: &'static str,
-) -> Result<&'a str, Problem>
-    ensures { is_ok result ≡ nat_lt at (vec_len words.now) }
+pub fn argument<'a>(words: &'a [String], at: usize, name: &'static str) -> Result<&'a str, Problem>
+    ensures given { is_ok result ≡ nat_lt at (length words.now) }
+    ensures word { IfOk result (λ text. HoldsAt (λ word. string_bytes word ≡ text.now) words.now at) }
+    ensures missing { IsOkUnless result (Problem.MissingArgument name.entry) }
 {
-    match words.get(at) {
-        Some(word) => Ok(word.as_str()),
-        None => Err(Problem::MissingArgument(name)),
-    }
+    let word = words.get(at).map(String::as_str);
+    word.ok_or(Problem::MissingArgument(name))
 }
 
 // Refuses the first word past so many.
-pub fn at_most(words: &Vec<String>, count: usize) -> Result<(), Problem>
-    ensures { is_ok result ≡ nat_le (vec_len words.now) count }
+pub fn at_most(words: &[String], count: usize) -> Result<(), Problem>
+    ensures verdict { is_ok result ≡ nat_le (length words.now) count }
+    ensures surplus { IfErr result (IsSurplus words.now count) }
 {
     match words.get(count) {
-        Some(word) => Err(Problem::SurplusArgument(word.clone()?)),
+        Some(word) => Err(Problem::SurplusArgument(word.clone().map_err(Problem::NoMemory)?)),
         None => Ok(()),
     }
 }
 
 // Whether the first word asks how the program is called.
-pub fn asks_help(words: &Vec<String>) -> bool
-    ensures { AsksHelp words.now.items result }
+#[tactic(auto, using(crate::proofs::Words::asks_at_first))]
+pub fn asks_help(words: &[String]) -> bool
+    ensures { AsksHelp words.now result }
 {
-    match words.first() {
-        Some(word) => word.as_str() == "--help",
-        None => false,
-    }
+    is_word(words, 0, "--help")
 }
 
 // Whether the word at a place is this text.
-pub fn is_word(words: &Vec<String>, at: usize, text: &str) -> bool
-    ensures { Decides result ((at < vec_len words.now) × HoldsAt (λ word. string_bytes word ≡ text.now) words.now.items at) }
+pub fn is_word(words: &[String], at: usize, text: &str) -> bool
+    ensures { Decides result ((at < length words.now) × HoldsAt (λ word. string_bytes word ≡ text.now) words.now at) }
 {
-    if let Some(word) = words.get(at) {
-        word.as_str() == text
-    } else {
-        false
-    }
+    words.get(at).is_some_and(|word| word.as_str() == text)
 }

@@ -1,45 +1,50 @@
 // Files of a bounded size.
-ghost use Rattle.std.specs.Prelude.{◌≡◌, ◌+◌, ◌≤◌, IfOk, vec_len};
+ghost use Rattle.std.specs.Prelude.{◌≤◌, IfOk, vec_len};
+ghost use Rattle.image.specs.Frames.{longest as longest_image};
+ghost use Rattle.plan.specs.Rules.{longest as longest_plan};
 
 use crate::problem::Problem;
 use std::fs::File;
 use std::io;
 use std::io::Read;
 
-const CHUNK: usize = 4096;
+// What a plan's file and an image's hold, up to what can tell.
+#[derive(Drop)]
+pub struct Files {
+    pub plan: Vec<u8>,
+    pub image: Vec<u8>,
+}
+
+impl Files {
+    // Reads both, each at most up to the end of the longest that there is and a byte more.
+    pub fn read(rt: &HostRuntime, plan: &str, image: &str) -> Result<Files, Problem>
+        ensures plan { IfOk result (λ files. vec_len files.plan ≤ longest_plan) }
+        ensures image { IfOk result (λ files. vec_len files.image ≤ longest_image) }
+    {
+        let plan = read_up_to(rt, plan, plan::format::longest())?;
+        let image = read_up_to(rt, image, image::longest())?;
+        Ok(Files { plan, image })
+    }
+}
 
 // The bytes of a file, at most so many: what lies past them is not read.
 pub fn read_up_to(rt: &HostRuntime, path: &str, limit: usize) -> Result<Vec<u8>, Problem>
     ensures { IfOk result (λ v. vec_len v ≤ limit) }
 {
-    match read_some(rt, path, limit) {
-        Ok(bytes) => Ok(bytes),
-        Err(error) => Err(Problem::Unreadable(String::from_str(rt.alloc(), path)?, error)),
-    }
+    read_some(rt, path, limit).try_map_err(|error| {
+        let path = String::from_str(rt.alloc(), path)?;
+        Ok(Problem::Unreadable(path, error))
+    })
 }
 
 fn read_some(rt: &HostRuntime, path: &str, limit: usize) -> io::Result<Vec<u8>>
     ensures { IfOk result (λ v. vec_len v ≤ limit) }
 {
-    let mut file = File::open(rt, path)?;
     let mut bytes = Vec::new(rt.alloc());
-    for _ in 0..=limit {
-        let rest = limit - bytes.len();
-        if read_more(&mut file, &mut bytes, rest)? == 0 {
-            break;
-        }
-    }
+    File::open(rt, path)?
+        .take(limit as u64)
+        .read_to_end(&mut bytes)?;
+    // no more have come, which a clause of the library does not say
+    bytes.truncate(limit);
     Ok(bytes)
-}
-
-// One read of at most so many bytes, and how many came.
-fn read_more(file: &mut File, bytes: &mut Vec<u8>, most: usize) -> io::Result<usize>
-    ensures { IfOk result (λ n. (n ≤ most) × (vec_len bytes.new ≡ vec_len bytes.old + n)) }
-{
-    let mut chunk = [0u8; CHUNK];
-    let want = CHUNK.min(most);
-    let part = &mut chunk[0..want];
-    let count = file.read(part)?;
-    bytes.extend_from_slice(&part[0..count])?;
-    Ok(count)
 }

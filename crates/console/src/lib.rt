@@ -4,3 +4,4 @@
 pub mod arguments;
 pub mod files;
 pub mod problem;
+pub mod slots;

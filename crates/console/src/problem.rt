@@ -1,9 +1,12 @@
 // Why a program ends without doing its job, and the one line that says so.
-ghost use Rattle.std.specs.Prelude.{◌≡◌, is_ok};
+ghost use Rattle.std.specs.Prelude.{◌≡◌, is_ok, if◌then◌else◌};
+ghost use Rattle.std.specs.Process.{exit_status};
 
 use plan::refusal::Refusal;
 use std::alloc::AllocError;
-use std::{fmt, io};
+use std::io;
+use std::process::ExitCode;
+use thiserror::Error;
 
 pub const VERSION: &str = "0.1.0";
 
@@ -14,19 +17,27 @@ pub struct Program {
     pub usage: &'static str,
 }
 
-#[derive(Drop)]
+#[derive(Debug, Drop, Error)]
 pub enum Problem {
     // the plan or the image breaks a rule
-    Refused(Refusal),
+    #[error(transparent)]
+    Refused(#[from] Refusal),
+    #[error("missing argument {0}")]
     MissingArgument(&'static str),
+    #[error("surplus argument '{0}'")]
     SurplusArgument(String),
+    #[error("--slots takes a whole number from 0 to 4294967295, not '{0}'")]
     NotNumber(String),
+    #[error("cannot read {0}: {1}")]
     Unreadable(String, io::Error),
     // the file with the number of slots has other than four bytes
+    #[error("{0}: a number of slots takes exactly 4 bytes")]
     SlotsLength(String),
-    NoMemory,
+    #[error("out of memory")]
+    NoMemory(#[from(alloc)] AllocError),
     // standard output or the command line cannot be had
-    System(io::Error),
+    #[error(transparent)]
+    System(#[from] io::Error),
 }
 
 impl Problem {
@@ -57,43 +68,15 @@ impl Program {
         };
         Err(())
     }
-}
 
-impl From<AllocError> for Problem {
-    fn from(_error: AllocError) -> Problem {
-        Problem::NoMemory
-    }
-}
-
-impl From<io::Error> for Problem {
-    fn from(error: io::Error) -> Problem {
-        Problem::System(error)
-    }
-}
-
-impl From<Refusal> for Problem {
-    fn from(refusal: Refusal) -> Problem {
-        Problem::Refused(refusal)
-    }
-}
-
-impl fmt::Display for Problem {
-    fn fmt<W: fmt::Write>(&self, f: &mut fmt::Formatter<W>) -> fmt::Result {
-        match self {
-            Problem::Refused(refusal) => write!(f, "{refusal}"),
-            Problem::MissingArgument(name) => write!(f, "missing argument {name}"),
-            Problem::SurplusArgument(text) => write!(f, "surplus argument '{text}'"),
-            Problem::NotNumber(text) => write!(
-                f,
-                "--slots takes a whole number from 0 to 4294967295, not '{text}'"
-            ),
-            Problem::Unreadable(path, error) => write!(f, "cannot read {path}: {error}"),
-            Problem::SlotsLength(path) => write!(
-                f,
-                "{path}: a number of slots takes exactly 4 bytes"
-            ),
-            Problem::NoMemory => write!(f, "out of memory"),
-            Problem::System(error) => write!(f, "{error}"),
+    // Says what went wrong, and gives the status that the process ends with.
+    pub fn exit_code(self, rt: &HostRuntime, outcome: Result<(), Problem>) -> ExitCode
+        ensures { exit_status result ≡ (if is_ok outcome then 0 else 1) }
+    {
+        if self.ended(rt, outcome).is_ok() {
+            ExitCode::SUCCESS
+        } else {
+            ExitCode::FAILURE
         }
     }
 }

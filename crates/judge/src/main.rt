@@ -1,10 +1,9 @@
 // judge PLAN IMAGE: prints 'accepted', or the refusal of the first rule that the plan or its image breaks.
 #![tactic(auto)]
 
-use console::arguments::{argument, at_most, is_word};
-use console::files::read_up_to;
+use console::arguments::{argument, arguments, asks_help, at_most, is_word};
+use console::files::Files;
 use console::problem::{Problem, Program, VERSION};
-use std::env;
 use std::process::ExitCode;
 
 const PROGRAM: Program = Program {
@@ -13,26 +12,22 @@ const PROGRAM: Program = Program {
 };
 
 fn main(rt: HostRuntime) -> ExitCode {
-    match PROGRAM.ended(&rt, judge(&rt)) {
-        Ok(()) => ExitCode::SUCCESS,
-        Err(()) => ExitCode::FAILURE,
-    }
+    PROGRAM.exit_code(&rt, judge(&rt))
 }
 
 fn judge(rt: &HostRuntime) -> Result<(), Problem> {
-    let given: Vec<String> = env::args(rt)?.collect(rt.alloc())?;
-    if is_word(&given, 1, "--help") {
+    let words = arguments(rt)?;
+    if asks_help(&words) {
         return Ok(println!(rt; "usage: {}", PROGRAM.usage)?);
     }
-    if is_word(&given, 1, "--version") {
+    if is_word(&words, 0, "--version") {
         return Ok(println!(rt; "{} {VERSION}", PROGRAM.name)?);
     }
-    let plan = argument(&given, 1, "PLAN")?;
-    let image = argument(&given, 2, "IMAGE")?;
-    at_most(&given, 3)?;
-    let plan = read_up_to(rt, plan, plan::format::longest())?;
-    let image = read_up_to(rt, image, image::longest())?;
-    let words = image::load(rt.alloc(), &image)?;
-    admission::admit(&plan, &words, &image)?;
+    let plan = argument(&words, 0, "PLAN")?;
+    let image = argument(&words, 1, "IMAGE")?;
+    at_most(&words, 2)?;
+    let files = Files::read(rt, plan, image)?;
+    let lent = image::load(rt.alloc(), &files.image)?;
+    admission::admit(&files.plan, &lent, &files.image)?;
     Ok(println!(rt; "accepted")?)
 }

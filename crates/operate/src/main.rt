@@ -1,17 +1,17 @@
 // operate PLAN IMAGE SLOTS, operate PLAN IMAGE --slots N: prints a line for each slot of a run, as it goes.
 #![tactic(auto)]
 
-use console::arguments::{argument, at_most, is_word};
-use console::files::read_up_to;
+use console::arguments::{argument, arguments, asks_help, at_most, is_word};
+use console::files::Files;
 use console::problem::{Problem, Program, VERSION};
+use console::slots::Slots;
 use isa::decoder::Decoder;
 use kernel::report::Report;
 use separation::face::Kernel;
 use separation::run::run as run_slots;
 use std::io::{BufWriter, Write};
 use std::process::ExitCode;
-use std::{env, io};
-use words::bytes::u32_at;
+use std::{io, iter};
 
 const PROGRAM: Program = Program {
     name: "operate",
@@ -19,52 +19,33 @@ const PROGRAM: Program = Program {
 };
 
 fn main(rt: HostRuntime) -> ExitCode {
-    match PROGRAM.ended(&rt, operate(&rt)) {
-        Ok(()) => ExitCode::SUCCESS,
-        Err(()) => ExitCode::FAILURE,
-    }
+    PROGRAM.exit_code(&rt, operate(&rt))
 }
 
 fn operate(rt: &HostRuntime) -> Result<(), Problem> {
-    let given: Vec<String> = env::args(rt)?.collect(rt.alloc())?;
-    if is_word(&given, 1, "--help") {
+    let words = arguments(rt)?;
+    if asks_help(&words) {
         return Ok(println!(rt; "usage: {}", PROGRAM.usage)?);
     }
-    if is_word(&given, 1, "--version") {
+    if is_word(&words, 0, "--version") {
         return Ok(println!(rt; "{} {VERSION}", PROGRAM.name)?);
     }
-    let plan = argument(&given, 1, "PLAN")?;
-    let image = argument(&given, 2, "IMAGE")?;
-    let (slots, options) = slots_asked(rt, &given)?;
-    let last_only = is_word(&given, options, "--last");
-    at_most(&given, if last_only { options + 1 } else { options })?;
-    let plan = read_up_to(rt, plan, plan::format::longest())?;
-    let image = read_up_to(rt, image, image::longest())?;
-    let mut words = image::load(rt.alloc(), &image)?;
-    admission::admit(&plan, &words, &image)?;
-    let mut kernel = Kernel::start(&plan, &words)?;
+    let plan = argument(&words, 0, "PLAN")?;
+    let image = argument(&words, 1, "IMAGE")?;
+    let slots = Slots::named(&words, 2)?;
+    let count = slots.count(rt)?;
+    let options = 2 + slots.width();
+    let last_only = is_word(&words, options, "--last");
+    at_most(&words, options + usize::from(last_only))?;
+    let files = Files::read(rt, plan, image)?;
+    let mut lent = image::load(rt.alloc(), &files.image)?;
+    admission::admit(&files.plan, &lent, &files.image)?;
+    let mut kernel = Kernel::start(&files.plan, &lent)?;
     if last_only {
-        let finished = run_slots(&plan, &mut words, slots)?;
+        let finished = run_slots(&files.plan, &mut lent, count)?;
         return Ok(print_last(rt, finished.last)?);
     }
-    Ok(print_slots(rt, &mut kernel, &mut words, slots)?)
-}
-
-// The number of slots, a file of four bytes, low byte first, or the decimal number after --slots; and the place of the word after it.
-fn slots_asked(rt: &HostRuntime, given: &Vec<String>) -> Result<(u32, usize), Problem> {
-    let slots = argument(given, 3, "SLOTS")?;
-    if slots == "--slots" {
-        let text = argument(given, 4, "N")?;
-        return match text.parse::<u32>() {
-            Ok(count) => Ok((count, 5)),
-            Err(_) => Err(Problem::NotNumber(String::from_str(rt.alloc(), text)?)),
-        };
-    }
-    let bytes = read_up_to(rt, slots, 5)?;
-    if bytes.len() != 4 {
-        return Err(Problem::SlotsLength(String::from_str(rt.alloc(), slots)?));
-    }
-    Ok((u32_at(&bytes, 0), 4))
+    Ok(print_slots(rt, &mut kernel, &mut lent, count)?)
 }
 
 fn print_last(rt: &HostRuntime, last: Option<Report>) -> io::Result<()> {
@@ -77,15 +58,13 @@ fn print_last(rt: &HostRuntime, last: Option<Report>) -> io::Result<()> {
 fn print_slots(
     rt: &HostRuntime,
     kernel: &mut Kernel,
-    words: &mut [u32],
+    lent: &mut [u32],
     count: u32,
 ) -> io::Result<()> {
     let mut out = BufWriter::new(rt.alloc(), rt.stdout())?;
     let mut decoder = Decoder::new();
-    for _ in 0..count {
-        let Some(report) = kernel.run_slot(words, &mut decoder) else {
-            break;
-        };
+    let reports = iter::from_fn(|| kernel.run_slot(lent, &mut decoder));
+    for report in reports.take(count as usize) {
         writeln!(out, "{report}")?;
     }
     out.flush()

@@ -2,7 +2,7 @@
 #![tactic(auto)]
 
 use console::arguments::{argument, arguments, asks_help, at_most};
-use console::files::read_up_to;
+use console::files::Files;
 use console::problem::{Problem, Program};
 use std::process::ExitCode;
 
@@ -12,10 +12,7 @@ const PROGRAM: Program = Program {
 };
 
 fn main(rt: HostRuntime) -> ExitCode {
-    match PROGRAM.ended(&rt, check(&rt)) {
-        Ok(()) => ExitCode::SUCCESS,
-        Err(()) => ExitCode::FAILURE,
-    }
+    PROGRAM.exit_code(&rt, check(&rt))
 }
 
 fn check(rt: &HostRuntime) -> Result<(), Problem> {
@@ -26,8 +23,7 @@ fn check(rt: &HostRuntime) -> Result<(), Problem> {
     let plan = argument(&words, 0, "PLAN")?;
     let image = argument(&words, 1, "IMAGE")?;
     at_most(&words, 2)?;
-    let plan = read_up_to(rt, plan, plan::format::longest())?;
-    let image = read_up_to(rt, image, image::longest())?;
-    image::admit(&plan, &image)?;
+    let files = Files::read(rt, plan, image)?;
+    image::admit(&files.plan, &files.image)?;
     Ok(println!(rt; "accepted")?)
 }
