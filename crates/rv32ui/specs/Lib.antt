@@ -1,2 +1,5 @@
 -- The definitions of this crate.
 pub mod Roles
+pub mod Words
+pub mod Outcome
+pub mod Tally

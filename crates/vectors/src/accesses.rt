@@ -1,7 +1,8 @@
 // Vectors of the public RISC-V test suite, rv32ui, for loads and stores. Its rows that differ from these only in the spacing of
 // instructions are left out.
 use crate::suite::Suite;
-use crate::word::{load_word, store_word};
+use rv32ui::runner::Runner;
+use rv32ui::word::{load_word, store_word};
 use std::io;
 
 // Where the data of the vectors begin: the address, and the word in page 17.
@@ -189,12 +190,13 @@ fn run_loads(
     data: &[u32],
     rows: &[Load],
 ) -> io::Result<()> {
-    for row in 0..rows.len() {
-        let Load(expected, base, offset) = rows[row];
+    for (row, Load(expected, base, offset)) in rows.iter().copied().enumerate() {
         suite.machine.restart();
         suite.machine.put_data(DATA_AT, data);
         suite.machine.set(2, DATA.wrapping_add_signed(base));
-        let result = suite.machine.run(&[load_word(fixed, 14, 2, offset)], 1, 14);
+        let result = suite
+            .machine
+            .result_of(&[load_word(fixed, 14, 2, offset)], 14);
         suite.check(rt, name, row, result, expected)?;
     }
     suite.count(rt, name, rows.len())
@@ -208,8 +210,7 @@ fn run_stores(
     filling: u32,
     rows: &[Store],
 ) -> io::Result<()> {
-    for row in 0..rows.len() {
-        let Store(expected, value, base, offset, load) = rows[row];
+    for (row, Store(expected, value, base, offset, load)) in rows.iter().copied().enumerate() {
         suite.machine.restart();
         suite.machine.put_data(DATA_AT, &[filling; 10]);
         suite.machine.set(1, value);
@@ -218,7 +219,7 @@ fn run_stores(
             store_word(fixed, 2, 1, offset),
             load_word(load, 14, 2, offset),
         ];
-        let result = suite.machine.run(&words, 2, 14);
+        let result = suite.machine.result_of(&words, 14);
         suite.check(rt, name, row, result, expected)?;
     }
     suite.count(rt, name, rows.len())

@@ -1,8 +1,14 @@
 // A hart with five frames of memory.
+ghost use Rattle.std.specs.Prelude.{◌≡◌};
+ghost use Rattle.isa.specs.Registers.{blank, held, register, written};
+ghost use Rattle.hart.specs.declared.context.State.TheVariants.{Ready};
+ghost use Rattle.tables.specs.First.{first_tables};
+
 use hart::context::{Context, State};
 use hart::step::step_with;
 use isa::decoder::Decoder;
 use isa::register::{Register, Registers};
+use rv32ui::runner::Runner;
 use tables::Tables;
 use words::frames;
 
@@ -10,6 +16,8 @@ use words::frames;
 pub const CODE: u32 = 0x1_0000;
 
 const FRAMES: usize = 5;
+
+const PAGE_WORDS: u32 = 1024;
 
 const CODE_FRAME: u32 = 2;
 
@@ -34,7 +42,9 @@ pub struct Machine {
     decoder: Decoder,
 }
 
-fn first_context() -> Context {
+fn first_context() -> Context
+    ensures { result ≡ record { registers = blank; pc = 0x10000; state = Ready } }
+{
     Context {
         registers: Registers::new(),
         pc: CODE,
@@ -61,25 +71,6 @@ impl Machine {
         }
     }
 
-    // Registers, counter, tables and clock as at first.
-    pub fn restart(&mut self) {
-        self.context = first_context();
-        self.tables.reset();
-        self.clock = 0;
-    }
-
-    pub fn set(&mut self, register: u32, value: u32) {
-        self.context.registers.write(Register::new(register), value);
-    }
-
-    pub fn get(&self, register: u32) -> u32 {
-        self.context.registers.read(Register::new(register))
-    }
-
-    pub fn pc(&self) -> u32 {
-        self.context.pc
-    }
-
     pub fn go_to(&mut self, pc: u32) {
         self.context.pc = pc;
     }
@@ -103,10 +94,8 @@ impl Machine {
     }
 
     fn put(&mut self, frame: u32, first: u32, words: &[u32]) {
-        let mut at = first;
-        for word in words {
+        for (at, word) in (first..PAGE_WORDS).zip(words) {
             frames::write(&mut self.words, frame, at, *word);
-            at = at.wrapping_add(1);
         }
     }
 
@@ -124,15 +113,69 @@ impl Machine {
         cost
     }
 
-    // Puts the words at the start and runs so many instructions: what the register holds then, none where the program stopped.
-    pub fn run(&mut self, words: &[u32], count: usize, register: u32) -> Option<u32> {
+    // Puts the words at the start and runs so many instructions; none where the program stopped.
+    pub fn run_for(&mut self, words: &[u32], instructions: usize) -> Option<()> {
         self.put_code(words);
-        for _ in 0..count {
+        for _ in 0..instructions {
             self.step();
         }
         match self.cause() {
-            None => Some(self.get(register)),
+            None => Some(()),
             Some(_) => None,
         }
+    }
+
+    // Runs the words: what the register holds then, none where the program stopped.
+    pub fn result_of(&mut self, words: &[u32], register: u32) -> Option<u32> {
+        self.run(words)?;
+        Some(self.get(register))
+    }
+}
+
+impl Runner for Machine {
+    ghost restarted = { λ m. record {
+      context = record { registers = blank; pc = 0x10000; state = Ready };
+      tables = first_tables;
+      words = m.words;
+      clock = 0;
+      decoder = m.decoder;
+    } };
+
+    ghost given = { λ m r v. record {
+      context = record { registers = written m.context.registers (register r) v; pc = m.context.pc; state = m.context.state };
+      tables = m.tables;
+      words = m.words;
+      clock = m.clock;
+      decoder = m.decoder;
+    } };
+
+    ghost held = { λ m r. held m.context.registers (register r) };
+
+    ghost counter = { λ m. m.context.pc };
+
+    // nothing is promised of a run: the vectors test it
+    ghost runs = { λ _ _ _ _. Unit {0} };
+
+    // Registers, counter, tables and clock as at first.
+    fn restart(&mut self) {
+        self.context = first_context();
+        self.tables.reset();
+        self.clock = 0;
+    }
+
+    fn set(&mut self, register: u32, value: u32) {
+        self.context.registers.write(Register::new(register), value);
+    }
+
+    fn get(&self, register: u32) -> u32 {
+        self.context.registers.read(Register::new(register))
+    }
+
+    fn pc(&self) -> u32 {
+        self.context.pc
+    }
+
+    fn run(&mut self, words: &[u32]) -> Option<()> {
+        self.run_for(words, words.len())
     }
 }
