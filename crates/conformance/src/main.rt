@@ -33,9 +33,7 @@ fn run_rows(
             )?,
         }
     }
-    let count = operation.rows.len();
-    tally.count(count);
-    println!(rt; "{name} {count}")
+    tally.count(rt, name, operation.rows.len())
 }
 
 fn main(rt: HostRuntime) -> anyhow::Result<()> {

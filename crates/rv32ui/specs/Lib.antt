@@ -3,3 +3,4 @@ pub mod Roles
 pub mod Words
 pub mod Outcome
 pub mod Tally
+pub mod Memory

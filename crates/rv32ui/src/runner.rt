@@ -51,12 +51,10 @@ fn prepare<R: Runner>(core: &mut R, row: Row)
 
 // What a row of an operation gives; none where its words are not run.
 pub fn outcome<R: Runner>(core: &mut R, operation: &Operation, row: Row) -> Option<u32>
-    ensures {
-        let first = prepared R.restarted R.given row core.old in
+    ensures { let first = prepared R.restarted R.given row core.old in
         (ran : Option Unit)
         × R.runs first (words_of operation.now row) ran core.new
-        × result ≡ told ran (reading operation.now.form (R.counter first) (R.counter core.new) (R.held core.new (roles_of row.0).target))
-    }
+        × result ≡ told ran (reading operation.now.form (R.counter first) (R.counter core.new) (R.held core.new (roles_of row.0).target)) }
 {
     let Row(place, _, left, right) = row;
     let Operation { form, fixed, .. } = *operation;

@@ -3,6 +3,7 @@ ghost use Rattle.std.specs.Prelude.{◌≡◌, IfOk};
 ghost use Rattle.rv32ui.specs.Tally.{checked, counted, is_expected};
 
 use anyhow::anyhow;
+use std::io;
 
 #[derive(Default, Drop)]
 pub struct Tally {
@@ -11,11 +12,12 @@ pub struct Tally {
 }
 
 impl Tally {
-    // So many vectors more were run.
-    pub fn count(&mut self, vectors: usize)
+    // Prints how many vectors of a name were run, and counts them.
+    pub fn count(&mut self, rt: &HostRuntime, name: &str, vectors: usize) -> io::Result<()>
         ensures { self.new ≡ counted self.old vectors }
     {
         self.run = self.run.saturating_add(vectors);
+        println!(rt; "{name} {vectors}")
     }
 
     // Whether a vector gave what is expected, none where it was not run; it is counted where not.

@@ -6,15 +6,9 @@ use hart::context::{Context, State};
 use hart::step::step_with;
 use isa::decoder::Decoder;
 use isa::register::Registers;
+use rv32ui::memory::{CODE, CODE_FRAME, MEMORY_WORDS, lay_out, put};
 use std::env;
 use tables::Tables;
-use words::frames;
-
-// Page 16 is the code.
-const START: u32 = 0x1_0000;
-
-// The root points to frame 1, where page 16 is frame 2 with R and X, and page 17 is frame 3 with R and W.
-const ENTRIES: [(u32, u32, u32); 3] = [(0, 0, 0x401), (1, 16, 0x8db), (1, 17, 0xcd7)];
 
 // Goes around page 17 and adds to its words.
 const LOOP: [u32; 9] = [
@@ -29,20 +23,11 @@ const LOOP: [u32; 9] = [
     0xfe5f_f06f, // jal x0, -28
 ];
 
-fn lay_out(words: &mut [u32]) {
-    for (frame, at, entry) in ENTRIES {
-        frames::write(words, frame, at, entry);
-    }
-    for at in 0..LOOP.len() {
-        frames::write(words, 2, at as u32, LOOP[at]);
-    }
-}
-
 // The clock after so many instructions.
 fn run(words: &mut [u32], count: u64) -> u64 {
     let mut context = Context {
         registers: Registers::new(),
-        pc: START,
+        pc: CODE,
         state: State::Ready,
     };
     let mut tables = Tables::new();
@@ -62,8 +47,9 @@ fn main(rt: HostRuntime) -> anyhow::Result<()> {
         Some(word) => word.parse::<u64>()?,
         None => return Err(anyhow!("usage: speed N")),
     };
-    let mut memory = vec![in rt.alloc(); 0u32; 4 * frames::FRAME_WORDS]?;
+    let mut memory = vec![in rt.alloc(); 0u32; MEMORY_WORDS]?;
     lay_out(&mut memory);
+    put(&mut memory, CODE_FRAME, 0, &LOOP);
     let cycles = run(&mut memory, count);
     println!(rt; "{count} instructions, {cycles} cycles")?;
     Ok(())

@@ -10,11 +10,11 @@ const DATA: u32 = 0x1_1100;
 
 const DATA_AT: u32 = 0x40;
 
-// Expected result, base as a distance from the data, and offset.
+// Expected result, base as a distance from the data, and offset. Names of fields would take a line each in the table.
 #[derive(Clone, Copy)]
 struct Load(u32, i32, i32);
 
-// Expected result of the load that follows, value, base and offset as above, and the fixed bits of that load.
+// Expected result of the load that follows, value, base and offset as above, and the fixed bits of that load. Without names too.
 #[derive(Clone, Copy)]
 struct Store(u32, u32, i32, i32, u32);
 
@@ -199,7 +199,7 @@ fn run_loads(
             .result_of(&[load_word(fixed, 14, 2, offset)], 14);
         suite.check(rt, name, row, result, expected)?;
     }
-    suite.count(rt, name, rows.len())
+    suite.tally.count(rt, name, rows.len())
 }
 
 // Runs the stores of one width over words that all hold the same, and a load after each.
@@ -222,7 +222,7 @@ fn run_stores(
         let result = suite.machine.result_of(&words, 14);
         suite.check(rt, name, row, result, expected)?;
     }
-    suite.count(rt, name, rows.len())
+    suite.tally.count(rt, name, rows.len())
 }
 
 pub fn run_accesses(rt: &HostRuntime, suite: &mut Suite) -> io::Result<()> {

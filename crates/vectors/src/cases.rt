@@ -1,6 +1,6 @@
 // Worked cases: what instructions cost, and how programs stop. The figures follow from the table of costs in docs/MACHINE.md.
-use crate::machine::CODE;
 use crate::suite::Suite;
+use rv32ui::memory::CODE;
 use rv32ui::runner::Runner;
 use std::io;
 
@@ -13,7 +13,7 @@ struct Timed {
     expected: u32,
 }
 
-// A word, what x1 holds, where the program is, the number of the cause, and the cycles.
+// A word, what x1 holds, where the program is, the number of the cause, and the cycles. Names of fields would take a line each in the table.
 #[derive(Clone, Copy)]
 struct Stop(u32, u32, u32, u32, u32);
 
@@ -120,7 +120,7 @@ fn run_timed(rt: &HostRuntime, suite: &mut Suite) -> io::Result<()> {
         let value = suite.machine.get(case.register);
         suite.check(rt, "cycles", row, Some(value), case.expected)?;
     }
-    suite.count(rt, "cycles", TIMED.len())
+    suite.tally.count(rt, "cycles", TIMED.len())
 }
 
 // A stop leaves the counter and the registers as they are, and each step after it takes one cycle.
@@ -141,7 +141,7 @@ fn run_stops(rt: &HostRuntime, suite: &mut Suite) -> io::Result<()> {
         suite.check(rt, "stops", row, Some(there), pc)?;
         suite.check(rt, "stops", row, Some(written), 0)?;
     }
-    suite.count(rt, "stops", STOPS.len())
+    suite.tally.count(rt, "stops", STOPS.len())
 }
 
 pub fn run_cases(rt: &HostRuntime, suite: &mut Suite) -> io::Result<()> {

@@ -1,15 +1,15 @@
 // Vectors for JAL and JALR: those of the public RISC-V test suite, rv32ui, and the ends of what the manual lets a jump reach.
-use crate::machine::CODE;
 use crate::suite::Suite;
+use rv32ui::memory::CODE;
 use rv32ui::runner::Runner;
 use rv32ui::word::{jal_word, jalr_word};
 use std::io;
 
-// Register of the link, and offset.
+// Register of the link, and offset. Names of fields would take a line each in the table.
 #[derive(Clone, Copy)]
 struct Jal(u32, i32);
 
-// Register of the link, register of the base and what it holds, offset, and where the jump goes.
+// Register of the link, register of the base and what it holds, offset, and where the jump goes. Without names too.
 #[derive(Clone, Copy)]
 struct Jalr(u32, u32, u32, i32, u32);
 
@@ -94,7 +94,7 @@ fn run_jal(rt: &HostRuntime, suite: &mut Suite) -> io::Result<()> {
         let pc = suite.machine.pc();
         suite.check(rt, "jal", row, Some(pc), CODE.wrapping_add_signed(offset))?;
     }
-    suite.count(rt, "jal", JAL_ROWS.len())
+    suite.tally.count(rt, "jal", JAL_ROWS.len())
 }
 
 fn run_jalr(rt: &HostRuntime, suite: &mut Suite) -> io::Result<()> {
@@ -108,7 +108,7 @@ fn run_jalr(rt: &HostRuntime, suite: &mut Suite) -> io::Result<()> {
         let pc = suite.machine.pc();
         suite.check(rt, "jalr", row, Some(pc), to)?;
     }
-    suite.count(rt, "jalr", JALR_ROWS.len())
+    suite.tally.count(rt, "jalr", JALR_ROWS.len())
 }
 
 pub fn run_jumps(rt: &HostRuntime, suite: &mut Suite) -> io::Result<()> {
@@ -123,5 +123,5 @@ pub fn run_jumps(rt: &HostRuntime, suite: &mut Suite) -> io::Result<()> {
             .map(|()| suite.machine.get(program.register));
         suite.check(rt, "after a jump", row, result, program.expected)?;
     }
-    suite.count(rt, "after a jump", PROGRAMS.len())
+    suite.tally.count(rt, "after a jump", PROGRAMS.len())
 }

@@ -8,35 +8,15 @@ use hart::context::{Context, State};
 use hart::step::step_with;
 use isa::decoder::Decoder;
 use isa::register::{Register, Registers};
+use rv32ui::memory::{CODE, CODE_FRAME, DATA_FRAME, MEMORY_WORDS, lay_out, put};
 use rv32ui::runner::Runner;
 use tables::Tables;
-use words::frames;
-
-// Page 16 is the code, pages 17 and 18 are data, and page 19 is the code once more.
-pub const CODE: u32 = 0x1_0000;
-
-const FRAMES: usize = 5;
-
-const PAGE_WORDS: u32 = 1024;
-
-const CODE_FRAME: u32 = 2;
-
-const DATA_FRAME: u32 = 3;
-
-// The root is frame 0 and points to frame 1. Code has R and X, data R and W.
-const ENTRIES: [(u32, u32, u32); 5] = [
-    (0, 0, 0x0000_0401),
-    (1, 16, 0x0000_08db),
-    (1, 17, 0x0000_0cd7),
-    (1, 18, 0x0000_10d7),
-    (1, 19, 0x0000_08db),
-];
 
 #[derive(Drop)]
 pub struct Machine {
     context: Context,
     tables: Tables,
-    words: [u32; FRAMES * frames::FRAME_WORDS],
+    words: [u32; MEMORY_WORDS],
     clock: u64,
     // stays from one vector to the next, with other words at the same addresses
     decoder: Decoder,
@@ -52,15 +32,9 @@ fn first_context() -> Context
     }
 }
 
-fn lay_out(words: &mut [u32]) {
-    for (frame, at, entry) in ENTRIES {
-        frames::write(words, frame, at, entry);
-    }
-}
-
 impl Machine {
     pub fn new() -> Machine {
-        let mut words = [0; FRAMES * frames::FRAME_WORDS];
+        let mut words = [0; MEMORY_WORDS];
         lay_out(&mut words);
         Machine {
             context: first_context(),
@@ -85,18 +59,12 @@ impl Machine {
 
     // Puts words into the code's page, from its start on.
     pub fn put_code(&mut self, words: &[u32]) {
-        self.put(CODE_FRAME, 0, words);
+        put(&mut self.words, CODE_FRAME, 0, words);
     }
 
     // Puts words into page 17, from a place on.
     pub fn put_data(&mut self, at: u32, words: &[u32]) {
-        self.put(DATA_FRAME, at, words);
-    }
-
-    fn put(&mut self, frame: u32, first: u32, words: &[u32]) {
-        for (at, word) in (first..PAGE_WORDS).zip(words) {
-            frames::write(&mut self.words, frame, at, *word);
-        }
+        put(&mut self.words, DATA_FRAME, at, words);
     }
 
     // One instruction: its cycles.
@@ -119,9 +87,9 @@ impl Machine {
         for _ in 0..instructions {
             self.step();
         }
-        match self.cause() {
-            None => Some(()),
-            Some(_) => None,
+        match self.context.state {
+            State::Ready => Some(()),
+            State::Stopped { .. } => None,
         }
     }
 

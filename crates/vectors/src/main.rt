@@ -22,7 +22,7 @@ fn run_rows(rt: &HostRuntime, suite: &mut Suite, operation: &Operation) -> io::R
         let given = outcome(&mut suite.machine, operation, *row);
         suite.check(rt, name, at, given, row.1)?;
     }
-    suite.count(rt, name, operation.rows.len())
+    suite.tally.count(rt, name, operation.rows.len())
 }
 
 fn main(rt: HostRuntime) -> anyhow::Result<()> {

@@ -36,10 +36,4 @@ impl Suite {
             None => println!(rt; "FAILED {name}, row {row}: stopped, expected {expected:08x}"),
         }
     }
-
-    // Prints how many rows a name has.
-    pub fn count(&mut self, rt: &HostRuntime, name: &str, rows: usize) -> io::Result<()> {
-        self.tally.count(rows);
-        println!(rt; "{name} {rows}")
-    }
 }
