@@ -1,10 +1,14 @@
 // A core without memory: it runs the instructions that need none.
+ghost use Rattle.std.specs.Prelude.{◌≡◌};
+ghost use Rattle.isa.specs.Registers.{blank, held, register, written};
+
 use isa::alu::word_of;
 use isa::decode::decode;
 use isa::instruction::Instruction;
 use isa::register::{Register, Registers};
+use rv32ui::runner::Runner;
 
-pub const START: u32 = 0x8000_0000;
+const START: u32 = 0x8000_0000;
 
 #[derive(Drop)]
 pub struct Bench {
@@ -13,32 +17,18 @@ pub struct Bench {
 }
 
 impl Bench {
-    // A write to register 0 comes last: it must not show.
-    pub fn new(first: u32, left: u32, second: u32, right: u32) -> Bench {
-        let mut bench = Bench {
+    pub fn new() -> Bench
+        ensures registers { result.registers ≡ blank }
+        ensures counter { result.counter ≡ 0x80000000 }
+    {
+        Bench {
             registers: Registers::new(),
             counter: START,
-        };
-        bench.set(first, left);
-        bench.set(second, right);
-        bench.set(0, !0);
-        bench
-    }
-
-    fn set(&mut self, register: u32, value: u32) {
-        self.registers.write(Register::new(register), value);
-    }
-
-    pub fn get(&self, register: u32) -> u32 {
-        self.registers.read(Register::new(register))
-    }
-
-    pub fn counter(&self) -> u32 {
-        self.counter
+        }
     }
 
     // Runs one word; none where it is illegal or needs memory.
-    pub fn run(&mut self, word: u32) -> Option<()> {
+    fn step(&mut self, word: u32) -> Option<()> {
         let mut next = self.counter.wrapping_add(4);
         match decode(word)? {
             Instruction::Lui { rd, value } => self.registers.write(rd, word_of(value)),
@@ -79,6 +69,42 @@ impl Bench {
             _ => return None,
         }
         self.counter = next;
+        Some(())
+    }
+}
+
+impl Runner for Bench {
+    ghost restarted = { λ _. record { registers = blank; counter = 0x80000000 } };
+
+    ghost given = { λ b r v. record { registers = written b.registers (register r) v; counter = b.counter } };
+
+    ghost held = { λ b r. held b.registers (register r) };
+
+    ghost counter = { λ b. b.counter };
+
+    // nothing is promised of a run: the vectors test it
+    ghost runs = { λ _ _ _ _. Unit {0} };
+
+    fn restart(&mut self) {
+        *self = Bench::new();
+    }
+
+    fn set(&mut self, register: u32, value: u32) {
+        self.registers.write(Register::new(register), value);
+    }
+
+    fn get(&self, register: u32) -> u32 {
+        self.registers.read(Register::new(register))
+    }
+
+    fn pc(&self) -> u32 {
+        self.counter
+    }
+
+    fn run(&mut self, words: &[u32]) -> Option<()> {
+        for word in words {
+            self.step(*word)?;
+        }
         Some(())
     }
 }

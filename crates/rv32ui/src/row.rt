@@ -46,5 +46,6 @@ impl Place {
 }
 
 // Registers, expected result, and the two operands. Of a branch the result is 1 where it is taken.
+// Without names of fields, which would each take a line in the tables; and one kind of row for all, so a branch has a number too.
 #[derive(Clone, Copy)]
 pub struct Row(pub Place, pub u32, pub u32, pub u32);

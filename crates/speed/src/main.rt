@@ -4,14 +4,8 @@
 use anyhow::anyhow;
 use hart::step::Core;
 use isa::decoder::Decoder;
+use rv32ui::memory::{CODE, CODE_FRAME, MEMORY_WORDS, lay_out, put};
 use std::env;
-use words::frames;
-
-// Page 16 is the code.
-const START: u32 = 0x1_0000;
-
-// The root points to frame 1, where page 16 is frame 2 with R and X, and page 17 is frame 3 with R and W.
-const ENTRIES: [(u32, u32, u32); 3] = [(0, 0, 0x401), (1, 16, 0x8db), (1, 17, 0xcd7)];
 
 // Goes around page 17 and adds to its words.
 const LOOP: [u32; 9] = [
@@ -26,18 +20,9 @@ const LOOP: [u32; 9] = [
     0xfe5f_f06f, // jal x0, -28
 ];
 
-fn lay_out(words: &mut [u32]) {
-    for (frame, at, entry) in ENTRIES {
-        frames::write(words, frame, at, entry);
-    }
-    for at in 0..LOOP.len() {
-        frames::write(words, 2, at as u32, LOOP[at]);
-    }
-}
-
 // The clock after so many instructions.
 fn run(words: &mut [u32], count: u64) -> u64 {
-    let mut core = Core::new(0, START);
+    let mut core = Core::new(0, CODE);
     let mut decoder = Decoder::new();
     for _ in 0..count {
         core.step_with(words, &mut decoder);
@@ -52,8 +37,9 @@ fn main(rt: HostRuntime) -> anyhow::Result<()> {
         Some(word) => word.parse::<u64>()?,
         None => return Err(anyhow!("usage: speed N")),
     };
-    let mut memory = vec![in rt.alloc(); 0u32; 4 * frames::FRAME_WORDS]?;
+    let mut memory = vec![in rt.alloc(); 0u32; MEMORY_WORDS]?;
     lay_out(&mut memory);
+    put(&mut memory, CODE_FRAME, 0, &LOOP);
     let cycles = run(&mut memory, count);
     println!(rt; "{count} instructions, {cycles} cycles")?;
     Ok(())

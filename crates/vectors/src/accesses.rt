@@ -1,7 +1,8 @@
 // Vectors of the public RISC-V test suite, rv32ui, for loads and stores. Its rows that differ from these only in the spacing of
 // instructions are left out.
 use crate::suite::Suite;
-use crate::word::{load_word, store_word};
+use rv32ui::runner::Runner;
+use rv32ui::word::{load_word, store_word};
 use std::io;
 
 // Where the data of the vectors begin: the address, and the word in page 17.
@@ -9,11 +10,11 @@ const DATA: u32 = 0x1_1100;
 
 const DATA_AT: u32 = 0x40;
 
-// Expected result, base as a distance from the data, and offset.
+// Expected result, base as a distance from the data, and offset. Names of fields would take a line each in the table.
 #[derive(Clone, Copy)]
 struct Load(u32, i32, i32);
 
-// Expected result of the load that follows, value, base and offset as above, and the fixed bits of that load.
+// Expected result of the load that follows, value, base and offset as above, and the fixed bits of that load. Without names too.
 #[derive(Clone, Copy)]
 struct Store(u32, u32, i32, i32, u32);
 
@@ -189,15 +190,16 @@ fn run_loads(
     data: &[u32],
     rows: &[Load],
 ) -> io::Result<()> {
-    for row in 0..rows.len() {
-        let Load(expected, base, offset) = rows[row];
+    for (row, Load(expected, base, offset)) in rows.iter().copied().enumerate() {
         suite.machine.restart();
         suite.machine.put_data(DATA_AT, data);
         suite.machine.set(2, DATA.wrapping_add_signed(base));
-        let result = suite.machine.run(&[load_word(fixed, 14, 2, offset)], 1, 14);
+        let result = suite
+            .machine
+            .result_of(&[load_word(fixed, 14, 2, offset)], 14);
         suite.check(rt, name, row, result, expected)?;
     }
-    suite.count(rt, name, rows.len())
+    suite.tally.count(rt, name, rows.len())
 }
 
 // Runs the stores of one width over words that all hold the same, and a load after each.
@@ -208,8 +210,7 @@ fn run_stores(
     filling: u32,
     rows: &[Store],
 ) -> io::Result<()> {
-    for row in 0..rows.len() {
-        let Store(expected, value, base, offset, load) = rows[row];
+    for (row, Store(expected, value, base, offset, load)) in rows.iter().copied().enumerate() {
         suite.machine.restart();
         suite.machine.put_data(DATA_AT, &[filling; 10]);
         suite.machine.set(1, value);
@@ -218,10 +219,10 @@ fn run_stores(
             store_word(fixed, 2, 1, offset),
             load_word(load, 14, 2, offset),
         ];
-        let result = suite.machine.run(&words, 2, 14);
+        let result = suite.machine.result_of(&words, 14);
         suite.check(rt, name, row, result, expected)?;
     }
-    suite.count(rt, name, rows.len())
+    suite.tally.count(rt, name, rows.len())
 }
 
 pub fn run_accesses(rt: &HostRuntime, suite: &mut Suite) -> io::Result<()> {

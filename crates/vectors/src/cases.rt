@@ -1,6 +1,7 @@
 // Worked cases: what instructions cost, and how programs stop. The figures follow from the table of costs in docs/MACHINE.md.
-use crate::machine::CODE;
 use crate::suite::Suite;
+use rv32ui::memory::CODE;
+use rv32ui::runner::Runner;
 use std::io;
 
 // Words from the start of the code on, the cycles of each instruction in the order of their execution, and what a register holds then.
@@ -12,7 +13,7 @@ struct Timed {
     expected: u32,
 }
 
-// A word, what x1 holds, where the program is, the number of the cause, and the cycles.
+// A word, what x1 holds, where the program is, the number of the cause, and the cycles. Names of fields would take a line each in the table.
 #[derive(Clone, Copy)]
 struct Stop(u32, u32, u32, u32, u32);
 
@@ -24,30 +25,25 @@ const LUI_4: u32 = 0x0001_3237; // lui x4, 19
 
 const NOP: u32 = 0x0000_0013;
 
+// rdcycle x5; lw x6, 0(x2); lw x7, 0(x2); rdcycle x8: the second load is of the same line
+const TWO_LOADS: [u32; 6] = [
+    LUI_2,
+    0xc000_22f3,
+    0x0001_2303,
+    0x0001_2383,
+    0xc000_2473,
+    NOP,
+];
+
 const TIMED: [Timed; 6] = [
-    // rdcycle x5; lw x6, 0(x2); lw x7, 0(x2); rdcycle x8: the second load is of the same line
     Timed {
-        words: [
-            LUI_2,
-            0xc000_22f3,
-            0x0001_2303,
-            0x0001_2383,
-            0xc000_2473,
-            NOP,
-        ],
+        words: TWO_LOADS,
         cycles: [31, 1, 51, 1, 1, 1],
         register: 8,
         expected: 84,
     },
     Timed {
-        words: [
-            LUI_2,
-            0xc000_22f3,
-            0x0001_2303,
-            0x0001_2383,
-            0xc000_2473,
-            NOP,
-        ],
+        words: TWO_LOADS,
         cycles: [31, 1, 51, 1, 1, 1],
         register: 5,
         expected: 31,
@@ -114,8 +110,7 @@ const STOPS: [Stop; 14] = [
 ];
 
 fn run_timed(rt: &HostRuntime, suite: &mut Suite) -> io::Result<()> {
-    for row in 0..TIMED.len() {
-        let case = TIMED[row];
+    for (row, case) in TIMED.iter().enumerate() {
         suite.machine.restart();
         suite.machine.put_code(&case.words);
         for cycles in case.cycles {
@@ -125,13 +120,12 @@ fn run_timed(rt: &HostRuntime, suite: &mut Suite) -> io::Result<()> {
         let value = suite.machine.get(case.register);
         suite.check(rt, "cycles", row, Some(value), case.expected)?;
     }
-    suite.count(rt, "cycles", TIMED.len())
+    suite.tally.count(rt, "cycles", TIMED.len())
 }
 
 // A stop leaves the counter and the registers as they are, and each step after it takes one cycle.
 fn run_stops(rt: &HostRuntime, suite: &mut Suite) -> io::Result<()> {
-    for row in 0..STOPS.len() {
-        let Stop(word, base, pc, cause, cycles) = STOPS[row];
+    for (row, Stop(word, base, pc, cause, cycles)) in STOPS.into_iter().enumerate() {
         suite.machine.restart();
         suite.machine.put_code(&[word]);
         suite.machine.set(1, base);
@@ -147,7 +141,7 @@ fn run_stops(rt: &HostRuntime, suite: &mut Suite) -> io::Result<()> {
         suite.check(rt, "stops", row, Some(there), pc)?;
         suite.check(rt, "stops", row, Some(written), 0)?;
     }
-    suite.count(rt, "stops", STOPS.len())
+    suite.tally.count(rt, "stops", STOPS.len())
 }
 
 pub fn run_cases(rt: &HostRuntime, suite: &mut Suite) -> io::Result<()> {

@@ -1,14 +1,15 @@
 // Vectors for JAL and JALR: those of the public RISC-V test suite, rv32ui, and the ends of what the manual lets a jump reach.
-use crate::machine::CODE;
 use crate::suite::Suite;
-use crate::word::{jal_word, jalr_word};
+use rv32ui::memory::CODE;
+use rv32ui::runner::Runner;
+use rv32ui::word::{jal_word, jalr_word};
 use std::io;
 
-// Register of the link, and offset.
+// Register of the link, and offset. Names of fields would take a line each in the table.
 #[derive(Clone, Copy)]
 struct Jal(u32, i32);
 
-// Register of the link, register of the base and what it holds, offset, and where the jump goes.
+// Register of the link, register of the base and what it holds, offset, and where the jump goes. Without names too.
 #[derive(Clone, Copy)]
 struct Jalr(u32, u32, u32, i32, u32);
 
@@ -86,43 +87,41 @@ fn link(register: u32) -> u32 {
 }
 
 fn run_jal(rt: &HostRuntime, suite: &mut Suite) -> io::Result<()> {
-    for row in 0..JAL_ROWS.len() {
-        let Jal(target, offset) = JAL_ROWS[row];
+    for (row, Jal(target, offset)) in JAL_ROWS.into_iter().enumerate() {
         suite.machine.restart();
-        let result = suite.machine.run(&[jal_word(target, offset)], 1, target);
+        let result = suite.machine.result_of(&[jal_word(target, offset)], target);
         suite.check(rt, "jal", row, result, link(target))?;
         let pc = suite.machine.pc();
         suite.check(rt, "jal", row, Some(pc), CODE.wrapping_add_signed(offset))?;
     }
-    suite.count(rt, "jal", JAL_ROWS.len())
+    suite.tally.count(rt, "jal", JAL_ROWS.len())
 }
 
 fn run_jalr(rt: &HostRuntime, suite: &mut Suite) -> io::Result<()> {
-    for row in 0..JALR_ROWS.len() {
-        let Jalr(target, base, value, offset, to) = JALR_ROWS[row];
+    for (row, Jalr(target, base, value, offset, to)) in JALR_ROWS.into_iter().enumerate() {
         suite.machine.restart();
         suite.machine.set(base, value);
         let result = suite
             .machine
-            .run(&[jalr_word(target, base, offset)], 1, target);
+            .result_of(&[jalr_word(target, base, offset)], target);
         suite.check(rt, "jalr", row, result, link(target))?;
         let pc = suite.machine.pc();
         suite.check(rt, "jalr", row, Some(pc), to)?;
     }
-    suite.count(rt, "jalr", JALR_ROWS.len())
+    suite.tally.count(rt, "jalr", JALR_ROWS.len())
 }
 
 pub fn run_jumps(rt: &HostRuntime, suite: &mut Suite) -> io::Result<()> {
     run_jal(rt, suite)?;
     run_jalr(rt, suite)?;
-    for row in 0..PROGRAMS.len() {
-        let program = PROGRAMS[row];
+    for (row, program) in PROGRAMS.iter().enumerate() {
         suite.machine.restart();
         suite.machine.set(6, program.x6);
         let result = suite
             .machine
-            .run(&program.words, program.instructions, program.register);
+            .run_for(&program.words, program.instructions)
+            .map(|()| suite.machine.get(program.register));
         suite.check(rt, "after a jump", row, result, program.expected)?;
     }
-    suite.count(rt, "after a jump", PROGRAMS.len())
+    suite.tally.count(rt, "after a jump", PROGRAMS.len())
 }

@@ -1,72 +1,32 @@
 // A hart with five frames of memory.
+ghost use Rattle.std.specs.Prelude.{◌≡◌};
+ghost use Rattle.isa.specs.Registers.{held, register, written};
+ghost use Rattle.hart.specs.Core.{first_core};
+
 use hart::context::State;
 use hart::step::Core;
 use isa::decoder::Decoder;
 use isa::register::Register;
-use words::frames;
-
-// Page 16 is the code, pages 17 and 18 are data, and page 19 is the code once more.
-pub const CODE: u32 = 0x1_0000;
-
-const FRAMES: usize = 5;
-
-const CODE_FRAME: u32 = 2;
-
-const DATA_FRAME: u32 = 3;
-
-// The root is frame 0 and points to frame 1. Code has R and X, data R and W.
-const ENTRIES: [(u32, u32, u32); 5] = [
-    (0, 0, 0x0000_0401),
-    (1, 16, 0x0000_08db),
-    (1, 17, 0x0000_0cd7),
-    (1, 18, 0x0000_10d7),
-    (1, 19, 0x0000_08db),
-];
+use rv32ui::memory::{CODE, CODE_FRAME, DATA_FRAME, MEMORY_WORDS, lay_out, put};
+use rv32ui::runner::Runner;
 
 #[derive(Drop)]
 pub struct Machine {
     core: Core,
-    words: [u32; FRAMES * frames::FRAME_WORDS],
+    words: [u32; MEMORY_WORDS],
     // stays from one vector to the next, with other words at the same addresses
     decoder: Decoder,
 }
 
-fn first_core() -> Core {
-    Core::new(0, CODE)
-}
-
-fn lay_out(words: &mut [u32]) {
-    for (frame, at, entry) in ENTRIES {
-        frames::write(words, frame, at, entry);
-    }
-}
-
 impl Machine {
     pub fn new() -> Machine {
-        let mut words = [0; FRAMES * frames::FRAME_WORDS];
+        let mut words = [0; MEMORY_WORDS];
         lay_out(&mut words);
         Machine {
-            core: first_core(),
+            core: Core::new(0, CODE),
             words,
             decoder: Decoder::new(),
         }
-    }
-
-    // Registers, counter, tables and clock as at first.
-    pub fn restart(&mut self) {
-        self.core = first_core();
-    }
-
-    pub fn set(&mut self, register: u32, value: u32) {
-        self.core.context.registers.write(Register::new(register), value);
-    }
-
-    pub fn get(&self, register: u32) -> u32 {
-        self.core.context.registers.read(Register::new(register))
-    }
-
-    pub fn pc(&self) -> u32 {
-        self.core.context.pc
     }
 
     pub fn go_to(&mut self, pc: u32) {
@@ -83,20 +43,12 @@ impl Machine {
 
     // Puts words into the code's page, from its start on.
     pub fn put_code(&mut self, words: &[u32]) {
-        self.put(CODE_FRAME, 0, words);
+        put(&mut self.words, CODE_FRAME, 0, words);
     }
 
     // Puts words into page 17, from a place on.
     pub fn put_data(&mut self, at: u32, words: &[u32]) {
-        self.put(DATA_FRAME, at, words);
-    }
-
-    fn put(&mut self, frame: u32, first: u32, words: &[u32]) {
-        let mut at = first;
-        for word in words {
-            frames::write(&mut self.words, frame, at, *word);
-            at = at.wrapping_add(1);
-        }
+        put(&mut self.words, DATA_FRAME, at, words);
     }
 
     // One instruction: its cycles.
@@ -104,15 +56,65 @@ impl Machine {
         self.core.step_with(&mut self.words, &mut self.decoder)
     }
 
-    // Puts the words at the start and runs so many instructions: what the register holds then, none where the program stopped.
-    pub fn run(&mut self, words: &[u32], count: usize, register: u32) -> Option<u32> {
+    // Puts the words at the start and runs so many instructions; none where the program stopped.
+    pub fn run_for(&mut self, words: &[u32], instructions: usize) -> Option<()> {
         self.put_code(words);
-        for _ in 0..count {
+        for _ in 0..instructions {
             self.step();
         }
-        match self.cause() {
-            None => Some(self.get(register)),
-            Some(_) => None,
-        }
+        self.core.context.state.is_ready().then_some(())
+    }
+
+    // Runs the words: what the register holds then, none where the program stopped.
+    pub fn result_of(&mut self, words: &[u32], register: u32) -> Option<u32> {
+        self.run(words)?;
+        Some(self.get(register))
+    }
+}
+
+impl Runner for Machine {
+    ghost restarted = { λ m. record {
+      core = first_core 0 0x10000;
+      words = m.words;
+      decoder = m.decoder;
+    } };
+
+    ghost given = { λ m r v. record {
+      core = record {
+        context = record { registers = written m.core.context.registers (register r) v; pc = m.core.context.pc; state = m.core.context.state };
+        tables = m.core.tables;
+        root = m.core.root;
+        clock = m.core.clock;
+      };
+      words = m.words;
+      decoder = m.decoder;
+    } };
+
+    ghost held = { λ m r. held m.core.context.registers (register r) };
+
+    ghost counter = { λ m. m.core.context.pc };
+
+    // nothing is promised of a run: the vectors test it
+    ghost runs = { λ _ _ _ _. Unit {0} };
+
+    // Registers, counter, tables and clock as at first.
+    fn restart(&mut self) {
+        self.core = Core::new(0, CODE);
+    }
+
+    fn set(&mut self, register: u32, value: u32) {
+        self.core.context.registers.write(Register::new(register), value);
+    }
+
+    fn get(&self, register: u32) -> u32 {
+        self.core.context.registers.read(Register::new(register))
+    }
+
+    fn pc(&self) -> u32 {
+        self.core.context.pc
+    }
+
+    fn run(&mut self, words: &[u32]) -> Option<()> {
+        self.run_for(words, words.len())
     }
 }

@@ -1,0 +1,40 @@
+-- What a row of an operation puts into registers, runs, and reads.
+use Rattle.std.specs.Prelude.{ℕ, ◌+◌, ◌-◌, ◌%◌, ◌^◌, List, [], ◌∷◌, cond, ◌==◌, Option, Some, None}
+use Rattle.rv32ui.specs.declared.operation.Form.{Form}
+use Rattle.rv32ui.specs.declared.operation.Form.TheVariants.{Registers, Constant, Branch, Upper, Relative}
+use Rattle.rv32ui.specs.declared.operation.Operation.{Operation}
+use Rattle.rv32ui.specs.declared.row.Row.{Row}
+use Rattle.rv32ui.specs.Roles.{roles_of}
+use Rattle.rv32ui.specs.Words.{register_format, constant_format, branch_format, upper_format}
+
+-- the operands in their registers, and then a write to register 0
+abbrev pub prepared : {S : Type 0} → (S → S) → (S → ℕ → ℕ → S) → Row → S → S
+prepared restarted given row core =
+    let roles = roles_of row.0 in
+    given (given (given (restarted core) roles.first row.2) roles.second row.3) 0 (2 ^ 32 - 1)
+
+-- the words, where the second of two is SRAI or ADDI
+abbrev pub words_by : Form → ℕ → Row → List ℕ
+words_by Registers fixed row = let roles = roles_of row.0 in register_format fixed roles.target roles.first roles.second ∷ []
+words_by Constant fixed row = let roles = roles_of row.0 in constant_format fixed roles.target roles.first row.3 ∷ []
+words_by Branch fixed row = let roles = roles_of row.0 in branch_format fixed roles.first roles.second ∷ []
+words_by Upper fixed row =
+    let roles = roles_of row.0 in upper_format fixed roles.target row.2 ∷ constant_format 0x40005013 roles.target roles.target row.3 ∷ []
+words_by Relative fixed row =
+    let roles = roles_of row.0 in upper_format fixed roles.target row.2 ∷ constant_format 0x13 roles.target roles.target row.3 ∷ []
+
+abbrev pub words_of : Operation → Row → List ℕ
+words_of operation row = words_by operation.form operation.fixed row
+
+-- what is read after them: what the target holds, or where the counter is, which was at `start`
+abbrev pub reading : Form → ℕ → ℕ → ℕ → ℕ
+reading Registers start counter held = held
+reading Constant start counter held = held
+reading Branch start counter held = cond (counter == (start + 16) % 2 ^ 32) 1 0
+reading Upper start counter held = held
+reading Relative start counter held = (held + (2 ^ 32 - (start + 12) % 2 ^ 32)) % 2 ^ 32
+
+-- none where the words did not run
+abbrev pub told : Option Unit → ℕ → Option ℕ
+told None value = None
+told (Some _) value = Some value
