@@ -8,14 +8,14 @@ use Rattle.paging.specs.Walks.{walked}
 use Rattle.paging.specs.Mapping.{InMemory, Pointer, Maps}
 use Rattle.paging.specs.Tables.{KernelFrame, Names, PointsTo, SameLent, SameTables}
 use Rattle.paging.specs.Laws.{LeavesNamed, Local, OneLeaf, PagesEnd, SameWay, TablesDecide, WalksFind, WritesApart}
-use Rattle.paging.proofs.Tell.{some_same}
+use Rattle.std.proofs.lemmas.Option.{same_Some}
 use Rattle.paging.proofs.Found.{finds, maps_walk, walk_maps}
 
 pub walks_find : WalksFind
 walks_find ws root page = finds ws root page (walked ws root page) refl
 
 pub one_leaf : OneLeaf
-one_leaf ws root page a b m n = some_same a b (sym (maps_walk ws root page a m) ∙ maps_walk ws root page b n)
+one_leaf ws root page a b m n = same_Some a b (sym (maps_walk ws root page a m) ∙ maps_walk ws root page b n)
 
 -- an answer that cannot be is none
 never : {X : Type 0} (o : Option X) → ((x : X) → o ≡ Some x → ⊥) → o ≡ None

@@ -1,13 +1,14 @@
 -- A walk answers what the page maps to, and a translation what the access reaches.
 use Rattle.std.proofs.Common.{◌≡◌, ℕ, ◌/◌, ◌%◌, ◌<◌, true, cond, ◌&&◌, ltb, List, Some, None, Option, sym, refl, ap, subst, arith}
 use Rattle.std.proofs.lemmas.Nat.{mod_below}
+use Rattle.std.proofs.lemmas.Option.{cond_some, none-some}
 use Rattle.std.proofs.lemmas.Bool.{and_parts, and_from, lt-ltb, ltb-true}
 use Rattle.words.specs.Frames.{word}
 use Rattle.paging.specs.declared.leaf.Leaf.{Leaf}
 use Rattle.paging.specs.Entries.{frame_of, is_pointer, leaf_of}
 use Rattle.paging.specs.Walks.{has_frame, if_there, leaf_at, table_at, then_leaf, walked}
 use Rattle.paging.specs.Mapping.{InMemory, Pointer, LeafEntry, Maps, Finds}
-use Rattle.paging.proofs.Tell.{guarded, some_same, frame_tells, pointer_tells, leaf_tells, leaf_told}
+use Rattle.paging.proofs.Tell.{guarded, frame_tells, pointer_tells, leaf_tells, leaf_told}
 
 -- what the first level tells
 record FirstLevel (ws : List ℕ) (root high table : ℕ) : Type 0 where
@@ -21,10 +22,10 @@ module _ (ws : List ℕ) where
   first_level root high table e =
       let entry = word ws root high in
       let outer = guarded (ltb high 1024 && has_frame ws root) (cond (is_pointer entry && has_frame ws (frame_of entry)) (Some (frame_of entry)) None) table e in
-      let inner = guarded (is_pointer entry && has_frame ws (frame_of entry)) (Some (frame_of entry)) table outer.1 in
+      let inner = cond_some (is_pointer entry && has_frame ws (frame_of entry)) (frame_of entry) table outer.1 in
       let root_good = and_parts (ltb high 1024) (has_frame ws root) outer.0 in
       let entry_good = and_parts (is_pointer entry) (has_frame ws (frame_of entry)) inner.0 in
-      subst (FirstLevel ws root high) (some_same (frame_of entry) table inner.1) (record {
+      subst (FirstLevel ws root high) inner.1 (record {
         high_below = ltb-true high 1024 root_good.0;
         root_there = (frame_tells ws root).0 root_good.1;
         points = (pointer_tells entry).0 entry_good.0;
@@ -42,10 +43,10 @@ module _ (ws : List ℕ) where
       rw (root_good, entry_good) (ap Some is)
 
   there : (o : Option Leaf) (leaf : Leaf) → if_there ws o ≡ Some leaf → (o ≡ Some leaf) × InMemory ws leaf.frame
-  there None leaf e = absurd (let z : ◌≡◌ {A = ℕ} 0 1 = cc in omega arith)
+  there None leaf e = absurd (none-some leaf e)
   there (Some found) leaf e =
-      let g = guarded (has_frame ws found.frame) (Some found) leaf e in
-      (g.1, subst (λ l. InMemory ws l.frame) (some_same found leaf g.1) ((frame_tells ws found.frame).0 g.0))
+      let g = cond_some (has_frame ws found.frame) found leaf e in
+      (ap Some g.1, subst (λ l. InMemory ws l.frame) g.1 ((frame_tells ws found.frame).0 g.0))
 
   second_level : (low table : ℕ) (leaf : Leaf) → leaf_at ws table low ≡ Some leaf → LeafEntry (word ws table low) leaf × InMemory ws leaf.frame
   second_level low table leaf e =
@@ -56,7 +57,7 @@ module _ (ws : List ℕ) where
   to_leaf low table leaf l m = rw (leaf_told (word ws table low) leaf l, (frame_tells ws leaf.frame).1 m)
 
   through : (low : ℕ) (o : Option ℕ) (leaf : Leaf) → then_leaf ws low o ≡ Some leaf → (table : ℕ) × (o ≡ Some table) × (leaf_at ws table low ≡ Some leaf)
-  through low None leaf e = absurd (let z : ◌≡◌ {A = ℕ} 0 1 = cc in omega arith)
+  through low None leaf e = absurd (none-some leaf e)
   through low (Some table) leaf e = (table, refl, e)
 
   pub walk_maps : (root page : ℕ) (leaf : Leaf) → walked ws root page ≡ Some leaf → Maps ws root page leaf

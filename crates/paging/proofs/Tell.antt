@@ -1,6 +1,7 @@
 -- What the tests on frames and entries tell.
 use Rattle.std.proofs.Common.{◌≡◌, ℕ, Bool, true, false, cond, not, ◌&&◌, ◌||◌, List, Some, None, Decides, Option, refl, ap, subst, arith}
 use Rattle.std.proofs.lemmas.Bool.Decides.{nat_tests}
+use Rattle.std.proofs.lemmas.Option.{cond_some, none-some}
 use Rattle.paging.specs.declared.leaf.Leaf.{Leaf}
 use Rattle.paging.specs.Entries.{fields, frame_of, is_pointer, is_leaf, leaf_of, is_readable, is_writable}
 use Rattle.paging.specs.Walks.{has_frame}
@@ -18,10 +19,7 @@ pointer_tells entry = (
 -- an answer that a test guards
 pub guarded : {X : Type 0} (test : Bool) (o : Option X) (x : X) → cond test o None ≡ Some x → (test ≡ true) × (o ≡ Some x)
 guarded true o x e = (refl, e)
-guarded false o x e = absurd (let z : ◌≡◌ {A = ℕ} 0 1 = cc in omega arith)
-
-pub some_same : {X : Type 0} (x y : X) → Some x ≡ Some y → x ≡ y
-some_same x y e = cc
+guarded false o x e = absurd (none-some x e)
 
 -- the test of a leaf, for the flags of an entry
 module _ (entry : ℕ) (e : (is_leaf entry && (is_readable entry || not (is_writable entry))) ≡ true) where
@@ -42,8 +40,8 @@ module _ (entry : ℕ) (e : (is_leaf entry && (is_readable entry || not (is_writ
 -- an entry answers a leaf if and only if it is that leaf
 pub leaf_tells : (entry : ℕ) (leaf : Leaf) → leaf_of entry ≡ Some leaf → LeafEntry entry leaf
 leaf_tells entry leaf e =
-    let g = guarded (is_leaf entry && (is_readable entry || not (is_writable entry))) (Some (fields entry)) leaf e in
-    subst (LeafEntry entry) (some_same (fields entry) leaf g.1) (told entry g.0)
+    let g = cond_some (is_leaf entry && (is_readable entry || not (is_writable entry))) (fields entry) leaf e in
+    subst (LeafEntry entry) g.1 (told entry g.0)
 
 pub leaf_told : (entry : ℕ) (leaf : Leaf) → LeafEntry entry leaf → leaf_of entry ≡ Some leaf
 leaf_told entry leaf l =

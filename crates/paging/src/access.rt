@@ -10,7 +10,8 @@ pub enum Access {
 }
 
 impl Access {
-    // The number of the cause with which a program stops when such an access faults. The enum of all causes stands above, with the core.
+    // The cause with which a program stops when such an access faults.
+    // It stays a number, since that is what it promises: the enum of all causes stands above, with the core.
     pub fn cause(self) -> u8
         ensures { result ≡ cause_of self }
     {

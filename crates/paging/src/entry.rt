@@ -9,6 +9,7 @@ use words::bits::bits;
 pub struct Entry(pub u32);
 
 // Where the flags stand. G and the bits for software are never looked at.
+// Constants and no enum, since `bits` takes the place as a number: an enum would only be cast to it.
 const VALID: u32 = 0;
 
 const READABLE: u32 = 1;

@@ -37,6 +37,7 @@ fn leaf_at(words: &[u32], table: u32, low: u32) -> Option<Leaf>
 }
 
 // The leaf of a page under a root frame; none where the walk faults.
+// The words and the root stay two parameters: the words are lent for writing one layer up, so nothing can hold the pair between walks.
 #[tactic(auto, using(crate::proofs::Found::finds), unfolding(crate::specs::Walks::walked))]
 pub fn walk(words: &[u32], root: u32, page: u32) -> Option<Leaf>
     ensures value { result ≡ walked words.now root page }

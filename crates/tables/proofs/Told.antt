@@ -1,7 +1,7 @@
 -- What a row tells of the cache after it.
 use Rattle.std.proofs.Common.{◌≡◌, ℕ, ◌+◌, ◌*◌, Bool, true, false, cond, not, ◌&&◌, ◌||◌, eqb, ◌⊎◌, List, [], ◌∷◌, ◌++◌, get_or, Some, None, Decides, Option, sym, refl, ap, ◌∙◌, subst, inl, inr, arith}
 use Rattle.std.proofs.lemmas.Nat.{mod_below}
-use Rattle.std.proofs.lemmas.Bool.{and_from, and_parts, both_ways, cases_Bool, cond-true, eq-eqb, eqb-true, not_from_false, not-true, or_cases, or_left, or_right}
+use Rattle.std.proofs.lemmas.Bool.{and_from, and_parts, both_ways, cases_Bool, cond-true, eq-eqb, eqb-true, false≢true, not_from_false, not-true, or_cases, or_left, or_right}
 use Rattle.std.proofs.lemmas.Bool.Decides.{Decides-and, Decides-eqb, Decides-not}
 use Rattle.std.specs.List.{AllByRecursion as All}
 use Rattle.words.specs.Costs.{miss, write_back}
@@ -126,7 +126,7 @@ dirty_follows = record {
 
 -- what a dirty place holds is some line of memory
 holder : (o : Option Line) → is_dirty o ≡ true → (tag : ℕ) × (has_tag tag o ≡ true)
-holder None d = absurd (let z : ◌≡◌ {A = ℕ} 0 1 = cc in omega arith)
+holder None d = absurd (false≢true d)
 holder (Some line) d = (line.tag, eq-eqb line.tag line.tag refl)
 
 module _ (cache : Cache) (line : ℕ) where
@@ -165,7 +165,7 @@ module _ (cache : Cache) (line : ℕ) where
 
 -- a place has one line at most
 one_held : (o : Option Line) (a b : ℕ) → has_tag a o ≡ true → has_tag b o ≡ true → a ≡ b
-one_held None a b h k = absurd (let z : ◌≡◌ {A = ℕ} 0 1 = cc in omega arith)
+one_held None a b h k = cc
 one_held (Some line) a b h k = sym (eqb-true line.tag a h) ∙ eqb-true line.tag b k
 
 conflicts_tell : (a b : ℕ) → Decides (conflicts a b) (Conflict a b)

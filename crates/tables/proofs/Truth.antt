@@ -1,16 +1,16 @@
 -- What a look-up gives, and an honest TLB.
-use Rattle.std.proofs.Common.{◌≡◌, ℕ, zero, suc, ◌<◌, ◌≤◌, Bool, true, false, cond, eqb, List, length, get_or, replicate, is_some, Some, None, Option, sym, refl, ap, ◌∙◌, inl, inr, arith}
+use Rattle.std.proofs.Common.{◌≡◌, ℕ, zero, suc, ◌<◌, ◌≤◌, true, cond, eqb, List, length, get_or, replicate, is_some, Some, None, Option, sym, refl, ap, ◌∙◌, inl, inr, arith}
 use Rattle.std.proofs.lemmas.Nat.{mod_below}
 use Rattle.std.proofs.ByRecursion.{All-get_or, All-set, All-weaker}
 use Rattle.std.proofs.lemmas.List.{get_or_past, get_or-set_same}
-use Rattle.std.proofs.lemmas.Bool.{cases_Bool, cases_lt, eq-eqb, eqb-true}
+use Rattle.std.proofs.lemmas.Bool.{cases_Bool, cases_lt, eq-eqb, eqb-true, false≢true}
+use Rattle.std.proofs.lemmas.Option.{cond_some, none-some}
 use Rattle.std.specs.List.{AllByRecursion as All}
 use Rattle.words.specs.Costs.{misprediction, page_walk}
 use Rattle.paging.specs.declared.access.Access.{Access}
 use Rattle.paging.specs.declared.leaf.Leaf.{Leaf}
 use Rattle.paging.specs.Accesses.{permitted}
 use Rattle.paging.specs.Walks.{then_place, translated, walked}
-use Rattle.paging.proofs.Tell.{guarded}
 use Rattle.tables.specs.declared.cache.Cache.{Cache}
 use Rattle.tables.specs.declared.tlb.Lookup.{Lookup}
 use Rattle.tables.specs.declared.tlb.Tlb.{Tlb}
@@ -20,7 +20,7 @@ use Rattle.tables.specs.Predictor.{is_right}
 use Rattle.tables.specs.Tlb.{entry_of, filled, filled_by, found, found_by, granted, known, leaf_for, put, reply}
 use Rattle.tables.specs.Honest.{Honest, TrueEntry, Truthful, reached}
 use Rattle.tables.specs.Laws.{Highest, Honesty, LookUps}
-use Rattle.tables.proofs.Lines.{access_costs}
+use Rattle.tables.proofs.Lines.{access_costs, charged_at_most}
 
 module _ (access : Access) where
   found_cost : (o walk : Option Leaf) → (found_by access o walk).cost ≡ cond (is_some o) 0 page_walk
@@ -30,10 +30,10 @@ module _ (access : Access) where
   -- a fault has no leaf to fill in
   faulted : (cost : ℕ) (o : Option Leaf) → (reply cost o).frame ≡ None → o ≡ None
   faulted cost None e = refl
-  faulted cost (Some leaf) e = absurd (let z : ◌≡◌ {A = ℕ} 0 1 = cc in omega arith)
+  faulted cost (Some leaf) e = cc
 
   allowed : (cost : ℕ) (o : Option Leaf) → is_some (reply cost o).frame ≡ true → (leaf : Leaf) × (o ≡ Some leaf)
-  allowed cost None e = absurd (let z : ◌≡◌ {A = ℕ} 0 1 = cc in omega arith)
+  allowed cost None e = absurd (false≢true e)
   allowed cost (Some leaf) e = (leaf, refl)
 
   module _ (tlb : Tlb) (page : ℕ) where
@@ -69,14 +69,14 @@ through cost address access (Some leaf) = elim (cases_Bool (permitted leaf acces
 
 granted_leaf : (access : Access) (o : Option Leaf) (leaf : Leaf) → granted access o ≡ Some leaf → o ≡ Some leaf
 granted_leaf access None leaf e = e
-granted_leaf access (Some found) leaf e = (guarded (permitted found access) (Some found) leaf e).1
+granted_leaf access (Some found) leaf e = ap Some (cond_some (permitted found access) found leaf e).1
 
 module _ (words : List ℕ) (root page : ℕ) where
   true_leaf : (o : Option TlbEntry) (leaf : Leaf) → TrueEntry words root o → leaf_for page o ≡ Some leaf → walked words root page ≡ Some leaf
-  true_leaf None leaf t e = absurd (let z : ◌≡◌ {A = ℕ} 0 1 = cc in omega arith)
+  true_leaf None leaf t e = absurd (none-some leaf e)
   true_leaf (Some entry) leaf t e =
-      let g = guarded (eqb entry.page page) (Some entry.leaf) leaf e in
-      ap (walked words root) (sym (eqb-true entry.page page g.0)) ∙ t ∙ g.1
+      let g = cond_some (eqb entry.page page) entry.leaf leaf e in
+      ap (walked words root) (sym (eqb-true entry.page page g.0)) ∙ t ∙ ap Some g.1
 
   module _ (tlb : Tlb) (honest : Honest tlb words root) where
     true_known : (leaf : Leaf) → known tlb page ≡ Some leaf → walked words root page ≡ Some leaf
@@ -122,19 +122,11 @@ honesty = record {
   moves = λ tlb words others root same honest. All-weaker (TrueEntry words root) (TrueEntry others root) (moved words others root same) tlb.entries honest;
 }
 
-walk_at_most : (known : Bool) → cond known 0 page_walk ≤ 30
-walk_at_most true = omega arith
-walk_at_most false = omega arith
-
 find_at_most : (tlb : Tlb) (page : ℕ) (access : Access) (walk : Option Leaf) → (found tlb page access walk).cost ≤ 30
-find_at_most tlb page access walk = omega (arith, (look_ups tlb page access walk).cost, walk_at_most (is_some (known tlb page)))
+find_at_most tlb page access walk = omega (arith, (look_ups tlb page access walk).cost, charged_at_most (is_some (known tlb page)) page_walk)
 
 access_at_most : (cache : Cache) (line : ℕ) → access_cost cache line ≤ 30
 access_at_most cache line = elim (access_costs cache line) [ inl e ↦ omega (arith, e) | inr (inl e) ↦ omega (arith, e) | inr (inr e) ↦ omega (arith, e) ]
-
-wrong_at_most : (right : Bool) → cond right 0 misprediction ≤ 3
-wrong_at_most true = omega arith
-wrong_at_most false = omega arith
 
 -- for what a look-up answers and leaves
 pub carried : (tlb after : Tlb) (words : List ℕ) (root page : ℕ) (access : Access) (lookup : Lookup) →
@@ -150,7 +142,7 @@ highest_costs = record {
   data_access = λ code tables cache page other line a b walk way.
       omega (arith, find_at_most code page a walk, find_at_most tables other b way, access_at_most cache line);
   branch = λ tlb predictor page address a walk taken.
-      omega (arith, find_at_most tlb page a walk, wrong_at_most (is_right predictor address taken));
+      omega (arith, find_at_most tlb page a walk, charged_at_most (is_right predictor address taken) misprediction);
   is_91 = refl;
   is_34 = refl;
 }

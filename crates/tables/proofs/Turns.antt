@@ -10,6 +10,7 @@ use Rattle.tables.specs.declared.predictor.Predictor.{Predictor}
 use Rattle.tables.specs.Predictor.{branch_cost, counted, counter, counter_of, first_predictor, learned}
 use Rattle.tables.specs.Loops.{Branch, Taken, loop_cost}
 use Rattle.tables.specs.Laws.{CountersStay, LoopsPredicted}
+use Rattle.tables.proofs.Lines.{charged_at_most}
 
 abbrev AsMany : Predictor → Type 0
 AsMany predictor = length predictor.counters ≡ 64
@@ -64,10 +65,6 @@ module _ (address : ℕ) where
         | inr t ↦ rw (t.0, rest (omega (arith, t.1))) refl
       ]
 
-  at_most : (right : Bool) → cond right 0 misprediction ≤ misprediction
-  at_most true = omega arith
-  at_most false = omega arith
-
   -- from 1 on it is wrong once at most
   once : (row : List Branch) (predictor : Predictor) → AsMany predictor → All (Taken address) row → 1 ≤ counter predictor address → loop_cost address predictor row ≤ misprediction
   unfolding loop_cost
@@ -75,7 +72,7 @@ module _ (address : ℕ) where
   once (b ∷ row) predictor many all high =
       let many_next = as_many_learned predictor b.address b.taken many in
       elim (turn predictor b many all.0) [
-        | inl t ↦ omega (arith, t.0, at_most (leb 2 (counter predictor address)), steady row (next predictor b) many_next all.1 (omega (arith, t.1)))
+        | inl t ↦ omega (arith, t.0, charged_at_most (leb 2 (counter predictor address)) misprediction, steady row (next predictor b) many_next all.1 (omega (arith, t.1)))
         | inr t ↦ omega (arith, t.0, once row (next predictor b) many_next all.1 (omega (arith, t.1)))
       ]
 

@@ -36,7 +36,7 @@ impl Predictor {
         let at = (address / 4) as usize % COUNTERS;
         let counter = self.counters[at];
         self.counters[at] = if taken {
-            counter.saturating_add(1).min(HIGHEST)
+            counter.min(HIGHEST - 1) + 1
         } else {
             counter.saturating_sub(1)
         };
