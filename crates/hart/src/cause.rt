@@ -36,6 +36,14 @@ impl From<Access> for Cause {
     fn from(access: Access) -> Cause
         ensures { result ≡ fault_cause access }
     {
+        Cause::from(access)
+    }
+}
+
+impl From<Access> for Cause {
+    ghost from_gives = { λ access cause. cause ≡ fault_cause access };
+
+    fn from(access: Access) -> Self {
         match access {
             Access::Fetch => Cause::FetchFault,
             Access::Load => Cause::LoadFault,

@@ -2,7 +2,7 @@
 ghost use Rattle.std.specs.Prelude.{◌≡◌};
 ghost use Rattle.paging.specs.Accesses.{cause_of};
 
-#[derive(Clone, Copy)]
+#[derive(Clone, Copy, PartialEq, Eq, Debug)]
 pub enum Access {
     Fetch,
     Load,
@@ -10,7 +10,7 @@ pub enum Access {
 }
 
 impl Access {
-    // The cause with which a program stops when such an access faults.
+    // The number of the cause with which a program stops when such an access faults. The enum of all causes stands above, with the core.
     pub fn cause(self) -> u8
         ensures { result ≡ cause_of self }
     {

@@ -5,7 +5,7 @@ ghost use Rattle.paging.specs.Entries.{flag, frame_of, grants, is_leaf, is_point
 use crate::leaf::Leaf;
 use words::bits::bits;
 
-#[derive(Clone, Copy)]
+#[derive(Clone, Copy, PartialEq, Eq, Debug)]
 pub struct Entry(pub u32);
 
 // Where the flags stand. G and the bits for software are never looked at.
@@ -24,6 +24,7 @@ const ACCESSED: u32 = 6;
 const DIRTY: u32 = 7;
 
 impl Entry {
+    #[tactic(auto, unfolding(crate::specs::Entries::flag))]
     fn flag(self, at: u32) -> bool
         ensures { result ≡ flag self.0 at }
     {
@@ -77,10 +78,6 @@ impl Entry {
             writable: self.flag(WRITABLE),
             executable: self.flag(EXECUTABLE),
         };
-        if self.is_leaf() && (leaf.readable || !leaf.writable) {
-            Some(leaf)
-        } else {
-            None
-        }
+        (self.is_leaf() && (leaf.readable || !leaf.writable)).then_some(leaf)
     }
 }

@@ -4,7 +4,7 @@ ghost use Rattle.paging.specs.Accesses.{permitted};
 
 use crate::access::Access;
 
-#[derive(Clone, Copy)]
+#[derive(Clone, Copy, PartialEq, Eq, Debug)]
 pub struct Leaf {
     pub frame: u32,
     pub readable: bool,

@@ -9,7 +9,7 @@ use words::frames::{FRAME_WORDS, is_lent, read};
 
 pub const MOST_FRAMES: u32 = 256;
 // A table fills a frame.
-const ENTRIES: u32 = FRAME_WORDS as u32;
+pub const ENTRIES: u32 = FRAME_WORDS as u32;
 
 // Whether a walk may go to the frame: it is below 256, and all of its words are lent.
 pub fn has_frame(words: &[u32], frame: u32) -> bool
@@ -25,25 +25,19 @@ fn table_at(words: &[u32], root: u32, high: u32) -> Option<u32>
         return None;
     }
     let entry = Entry(read(words, root, high));
-    if entry.is_pointer() && has_frame(words, entry.frame()) {
-        Some(entry.frame())
-    } else {
-        None
-    }
+    (entry.is_pointer() && has_frame(words, entry.frame())).then_some(entry.frame())
 }
 
 fn leaf_at(words: &[u32], table: u32, low: u32) -> Option<Leaf>
     ensures { result ≡ leaf_at words.now table low }
 {
-    let leaf = Entry(read(words, table, low)).leaf()?;
-    if has_frame(words, leaf.frame) {
-        Some(leaf)
-    } else {
-        None
-    }
+    Entry(read(words, table, low))
+        .leaf()
+        .filter(|leaf| has_frame(words, leaf.frame))
 }
 
 // The leaf of a page under a root frame; none where the walk faults.
+#[tactic(auto, using(crate::proofs::Found::finds), unfolding(crate::specs::Walks::walked))]
 pub fn walk(words: &[u32], root: u32, page: u32) -> Option<Leaf>
     ensures value { result ≡ walked words.now root page }
     ensures finds { Finds words.now root page result }

@@ -11,7 +11,7 @@ const LINES: usize = CACHE_LINES as usize;
 const LINE_BYTES: u32 = 64;
 
 // A line of memory that is in the cache: the tag is the part of its number that its place in the cache does not tell.
-#[derive(Clone, Copy)]
+#[derive(Clone, Copy, PartialEq, Eq, Debug)]
 pub struct Line {
     pub tag: u32,
     pub dirty: bool,
@@ -25,19 +25,13 @@ pub struct Cache {
 fn is_dirty(line: Option<Line>) -> bool
     ensures { result ≡ is_dirty line }
 {
-    match line {
-        Some(line) => line.dirty,
-        None => false,
-    }
+    line.is_some_and(|line| line.dirty)
 }
 
 fn has_tag(line: Option<Line>, tag: u32) -> bool
     ensures { result ≡ has_tag tag line }
 {
-    match line {
-        Some(line) => line.tag == tag,
-        None => false,
-    }
+    line.is_some_and(|line| line.tag == tag)
 }
 
 impl Cache {
@@ -73,16 +67,11 @@ impl Cache {
     }
 
     // How many lines are dirty.
+    #[tactic(auto, using(crate::proofs::Sums::dirty_counted))]
     pub fn dirty_lines(&self) -> u32
         ensures value { result ≡ dirty_count self.now }
         ensures most { result ≤ cache_lines }
     {
-        let mut dirty = 0;
-        for at in 0..LINES {
-            if is_dirty(self.lines[at]) {
-                dirty += 1;
-            }
-        }
-        dirty
+        self.lines.iter().filter(|line| is_dirty(**line)).count() as u32
     }
 }

@@ -38,8 +38,6 @@ impl Tables {
     pub fn reset(&mut self)
         ensures { self.new ≡ first_tables }
     {
-        self.cache = Cache::new();
-        self.tlb = Tlb::new();
-        self.predictor = Predictor::new();
+        *self = Tables::new();
     }
 }

@@ -35,13 +35,10 @@ impl Predictor {
     {
         let at = (address / 4) as usize % COUNTERS;
         let counter = self.counters[at];
-        self.counters[at] = match taken {
-            true => if counter < HIGHEST {
-                counter + 1
-            } else {
-                HIGHEST
-            },
-            false => if counter > 0 { counter - 1 } else { 0 },
+        self.counters[at] = if taken {
+            counter.min(HIGHEST - 1) + 1
+        } else {
+            counter.saturating_sub(1)
         };
         if (counter >= TAKEN) == taken {
             0

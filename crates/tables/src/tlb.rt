@@ -13,7 +13,7 @@ use words::costs::WALK;
 const ENTRIES: usize = 16;
 
 // What is known of a page.
-#[derive(Clone, Copy)]
+#[derive(Clone, Copy, PartialEq, Eq, Debug)]
 pub struct TlbEntry {
     pub page: u32,
     pub leaf: Leaf,
@@ -72,6 +72,7 @@ impl Tlb {
 
     // Finds the frame of a page for an access, and walks the page tables of the root only where no entry has the page.
     // Only a walk that ends in a leaf with the permission fills an entry.
+    #[tactic(auto, using(crate::proofs::Truth::carried_cost), unfolding(crate::specs::Tlb::found, crate::specs::Tlb::filled))]
     pub fn find(&mut self, words: &[u32], root: u32, page: u32, access: Access) -> Lookup
         ensures answer { result ≡ found self.old page access (walked words.now root page) }
         ensures after { self.new ≡ filled self.old page access (walked words.now root page) }
