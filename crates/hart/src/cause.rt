@@ -33,14 +33,6 @@ impl Cause {
 
 // The cause of a page fault.
 impl From<Access> for Cause {
-    fn from(access: Access) -> Cause
-        ensures { result ≡ fault_cause access }
-    {
-        Cause::from(access)
-    }
-}
-
-impl From<Access> for Cause {
     ghost from_gives = { λ access cause. cause ≡ fault_cause access };
 
     fn from(access: Access) -> Self {

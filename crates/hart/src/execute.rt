@@ -6,12 +6,12 @@ ghost use Rattle.hart.specs.Execution.{counter_value, offset_by};
 
 use crate::cause::Cause;
 use crate::memory;
-use crate::step::{Core, PAGE_BYTES};
+use crate::step::Core;
 use isa::alu::word_of;
 use isa::instruction::{Counter, Instruction, LoadWidth, StoreWidth};
 use isa::register::Register;
 use paging::access::Access;
-use paging::translate::Place;
+use paging::translate::{PAGE_BYTES, Place};
 use words::frames;
 
 fn offset_by(address: u32, offset: i32) -> u32

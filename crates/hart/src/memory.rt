@@ -5,7 +5,7 @@ ghost use Rattle.hart.specs.Memory.{load_bytes, loaded, replaced, store_bytes, s
 use isa::instruction::{LoadWidth, StoreWidth};
 use words::bits::{bits, sign_extended};
 
-// How many bytes a load or a store has.
+// How many bytes a load has, and a store. Loads and stores have enums of their own, so a trait over both would hold these same two matches.
 pub fn load_bytes(width: LoadWidth) -> u32
     ensures { result ≡ load_bytes width }
 {

@@ -7,12 +7,12 @@ use crate::cause::Cause;
 use crate::context::{Context, State};
 use isa::decoder::{Afresh, Decode};
 use paging::access::Access;
+use paging::translate::PAGE_BYTES;
 use tables::Tables;
 use tables::tlb::Lookup;
 use words::costs::INSTRUCTION;
 use words::frames;
 
-pub(crate) const PAGE_BYTES: u32 = 4096;
 // What parts the places of one program from those of the next.
 const APART: u32 = 1092;
 

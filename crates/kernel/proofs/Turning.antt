@@ -1,7 +1,6 @@
 -- What the code of a slot answers is the slot as it is defined.
 use Rattle.std.proofs.Common.{◌≡◌, ℕ, ◌+◌, ◌^◌, ◌<◌, true, ltb, List, set, Some, subst}
 use Rattle.std.proofs.lemmas.Bool.{and_from, lt-ltb}
-use Rattle.tables.specs.declared.Tables.{Tables}
 use Rattle.hart.specs.declared.context.Context.{Context}
 use Rattle.plan.specs.declared.model.Partition.{Partition}
 use Rattle.plan.specs.declared.model.Plan.{Plan}

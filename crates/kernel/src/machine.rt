@@ -67,7 +67,6 @@ impl Machine {
         };
         let instructions = run_until(&mut core, words, slot.length, decoder);
         self.contexts[who] = core.context;
-        self.tables = core.tables;
         let report = Report {
             slot: self.turn,
             partition: slot.partition,
@@ -77,20 +76,23 @@ impl Machine {
             pc: core.context.pc,
             state: core.context.state,
         };
-        self.switch(&accepted.plan, core.clock);
+        self.switch(&accepted.plan, &core);
         deliver(accepted, slot.partition, words);
         Some(report)
     }
 
-    // The switch after a slot that has ended, but for the words of its messages: write-backs and copies take their time, and the next slot begins on time.
-    fn switch(&mut self, plan: &Plan, ended: u64)
-        requires { (self.old.clock < 2 ^ 63) × ((self.old.turn < 2 ^ 32 - 1) × (ended < 2 ^ 63 + 2 ^ 33)) }
-        ensures { self.new ≡ switched plan.now self.old ended }
+    // The switch after a slot that a core has run to its end, but for the words of its messages:
+    // write-backs and copies take their time, and the next slot begins on time.
+    fn switch(&mut self, plan: &Plan, ended: &Core)
+        requires clock { self.old.clock < 2 ^ 63 }
+        requires turn { self.old.turn < 2 ^ 32 - 1 }
+        requires ended { ended.now.clock < 2 ^ 63 + 2 ^ 33 }
+        ensures { self.new ≡ switched plan.now (record self.old { tables = ended.now.tables }) ended.now.clock }
     {
         let slot = plan.slot_of(self.turn);
-        let written_back = self.tables.cache.dirty_lines() * WRITE_BACK;
+        let written_back = ended.tables.cache.dirty_lines() * WRITE_BACK;
         let copied = u32::from(plan.channels_out(slot.partition)) * MESSAGE;
-        let done = ended + u64::from(written_back) + u64::from(copied);
+        let done = ended.clock + u64::from(written_back) + u64::from(copied);
         let next = self.clock + u64::from(slot.length) + plan.budget as u64;
         self.tables.reset();
         self.clock = done.max(next);

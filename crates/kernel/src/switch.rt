@@ -16,6 +16,7 @@ fn ends_at(ends: &[Ends], k: u8) -> Ends
     })
 }
 
+#[tactic(auto, unfolding(crate::specs::Switch::carried))]
 fn carry(accepted: &Accepted, who: u8, k: u8, words: &mut [u32])
     ensures { words.new ≡ carried accepted.now who k words.old }
 {
@@ -26,6 +27,7 @@ fn carry(accepted: &Accepted, who: u8, k: u8, words: &mut [u32])
 }
 
 // Carries the messages out of the partition that ran, in the plan's order.
+#[tactic(auto, unfolding(crate::specs::Switch::delivered))]
 pub fn deliver(accepted: &Accepted, who: u8, words: &mut [u32])
     ensures { words.new ≡ delivered accepted.now who accepted.now.plan.counts.channels words.old }
 {

@@ -1,7 +1,7 @@
-use Rattle.std.proofs.Common.{◌≡◌, ◌+◌, ◌-◌, ◌≤◌, false, ◌⊎◌, sym, ap, ◌∙◌, inl, inr, arith}
+use Rattle.std.proofs.Common.{◌≡◌, ◌+◌, ◌≤◌, false, ◌⊎◌, sym, ap, ◌∙◌, inl, inr, arith}
 use Rattle.hart.specs.Execution.{is_ready}
-use Rattle.kernel.specs.Inside.{inside, until}
-use Rattle.kernel.proofs.Running.{done, enough, moves_on, turned}
+use Rattle.kernel.specs.Inside.{inside}
+use Rattle.kernel.proofs.Running.{done, moves_on, turned}
 use Rattle.kernel.proofs.inside.run_until.Goals as goal
 use Rattle.kernel.proofs.inside.run_until.Goals.{then-loop-core-test+else-is_ready, else-loop-core-test}
 

@@ -1,7 +1,7 @@
 use Rattle.std.proofs.Common.{◌≡◌, get_or, Some, sym, ap, ◌∙◌, arith, rules}
 use borrow.Author.Rules.{get_or_read}
 use Rattle.plan.specs.declared.model.Slot.{Slot}
-use Rattle.kernel.specs.Inside.{Inside, inside}
+use Rattle.kernel.specs.Inside.{inside}
 use Rattle.kernel.specs.Machine.{context_of, ended, system}
 use Rattle.kernel.proofs.Turning.{can, machine_after, same_end, told, words_after}
 use Rattle.kernel.proofs.machine.Machine.run_slot.Goals as goal
