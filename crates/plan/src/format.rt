@@ -1,25 +1,43 @@
 // The plan's bytes: three counts of one byte, the budget in four, then 6 bytes for each partition, 5 for each slot
 // and 10 for each channel. Numbers are low byte first.
-ghost use Rattle.std.specs.Prelude.{◌≡◌, ◌^◌, ◌<◌};
+ghost use Rattle.std.specs.Prelude.{◌≡◌, ℕ, ◌+◌, ◌*◌, ◌^◌, ◌<◌, List};
+ghost use Rattle.std.proofs.Common.{rules};
 ghost use Rattle.plan.specs.Rules.{longest};
-ghost use Rattle.plan.specs.Format.{channel_at, channels_from, channels_in, counts_of, partition_at, partitions_in, plan_of, plan_size, slot_at, slots_from, slots_in};
+ghost use Rattle.plan.specs.Format.{channel_at, channels_from, counts_of, no_channel, no_partition, no_slot, partition_at, plan_of, plan_size, rows, slot_at, slots_from};
 
 use crate::model::*;
+use std::array;
 use words::bytes::{byte_at, u16_at, u32_at};
 
 const HEADER: usize = 7;
 
-const PARTITION: usize = 6;
+// A row of the plan, a kind of record of one size.
+trait Row: Copy + Default {
+    // how many bytes it has
+    const SIZE: usize;
 
-const SLOT: usize = 5;
+    ghost SIZE: { ℕ };
 
-const CHANNEL: usize = 10;
+    // what the bytes from a place on say
+    ghost row_at: { List ℕ → ℕ → Self };
+
+    // what stands past the last
+    ghost blank: { Self };
+
+    fn read(bytes: &[u8], at: usize) -> Self
+        requires { at < 2 ^ 32 }
+        ensures { result ≡ row_at bytes.now at };
+
+    ghost short: { SIZE < 2 ^ 8 };
+
+    ghost blank_is_default: { (x : Self) → Self.is_default x → x ≡ blank };
+}
 
 // So many bytes of a file tell all: no counts ask for as many, so a plan that goes on has bytes after its end.
 pub fn longest() -> usize
     ensures { result ≡ longest }
 {
-    HEADER + 255 * (PARTITION + SLOT + CHANNEL) + 1
+    HEADER + 255 * (Partition::SIZE + Slot::SIZE + Channel::SIZE) + 1
 }
 
 impl Counts {
@@ -37,30 +55,37 @@ impl Counts {
     fn slots_from(self) -> usize
         ensures { result ≡ slots_from self }
     {
-        HEADER + PARTITION * self.partitions as usize
+        HEADER + Partition::SIZE * usize::from(self.partitions)
     }
 
     fn channels_from(self) -> usize
         ensures { result ≡ channels_from self }
     {
-        self.slots_from() + SLOT * self.slots as usize
+        self.slots_from() + Slot::SIZE * usize::from(self.slots)
     }
 
     // How many bytes a plan with these counts has.
     pub fn plan_size(self) -> usize
         ensures { result ≡ plan_size self }
     {
-        self.channels_from() + CHANNEL * self.channels as usize
+        self.channels_from() + Channel::SIZE * usize::from(self.channels)
     }
 }
 
-impl Partition {
-    pub(crate) const NONE: Partition = Partition { root: 0, start: 0 };
+impl Row for Partition {
+    const SIZE: usize = 6;
 
-    fn read(bytes: &[u8], at: usize) -> Partition
-        requires { at < 2 ^ 32 }
-        ensures { result ≡ partition_at bytes.now at }
-    {
+    ghost SIZE = { 6 };
+
+    ghost row_at = { partition_at };
+
+    ghost blank = { no_partition };
+
+    ghost short = { Prim.search rules };
+
+    ghost blank_is_default = { Prim.search rules };
+
+    fn read(bytes: &[u8], at: usize) -> Partition {
         Partition {
             root: u16_at(bytes, at),
             start: u32_at(bytes, at + 2),
@@ -68,16 +93,20 @@ impl Partition {
     }
 }
 
-impl Slot {
-    pub(crate) const NONE: Slot = Slot {
-        partition: 0,
-        length: 0,
-    };
+impl Row for Slot {
+    const SIZE: usize = 5;
 
-    fn read(bytes: &[u8], at: usize) -> Slot
-        requires { at < 2 ^ 32 }
-        ensures { result ≡ slot_at bytes.now at }
-    {
+    ghost SIZE = { 5 };
+
+    ghost row_at = { slot_at };
+
+    ghost blank = { no_slot };
+
+    ghost short = { Prim.search rules };
+
+    ghost blank_is_default = { Prim.search rules };
+
+    fn read(bytes: &[u8], at: usize) -> Slot {
         Slot {
             partition: byte_at(bytes, at),
             length: u32_at(bytes, at + 1),
@@ -85,22 +114,20 @@ impl Slot {
     }
 }
 
-impl Channel {
-    pub(crate) const NONE: Channel = Channel {
-        sender: Endpoint {
-            partition: 0,
-            page: 0,
-        },
-        receiver: Endpoint {
-            partition: 0,
-            page: 0,
-        },
-    };
+impl Row for Channel {
+    const SIZE: usize = 10;
 
-    fn read(bytes: &[u8], at: usize) -> Channel
-        requires { at < 2 ^ 32 }
-        ensures { result ≡ channel_at bytes.now at }
-    {
+    ghost SIZE = { 10 };
+
+    ghost row_at = { channel_at };
+
+    ghost blank = { no_channel };
+
+    ghost short = { Prim.search rules };
+
+    ghost blank_is_default = { Prim.search rules };
+
+    fn read(bytes: &[u8], at: usize) -> Channel {
         Channel {
             sender: Endpoint {
                 partition: byte_at(bytes, at),
@@ -123,42 +150,27 @@ impl Plan {
         Plan {
             counts,
             budget: u32_at(bytes, 3),
-            partitions: partitions_in(bytes, HEADER, counts.partitions),
-            slots: slots_in(bytes, counts.slots_from(), counts.slots),
-            channels: channels_in(bytes, counts.channels_from(), counts.channels),
+            partitions: rows_in(bytes, HEADER, counts.partitions),
+            slots: rows_in(bytes, counts.slots_from(), counts.slots),
+            channels: rows_in(bytes, counts.channels_from(), counts.channels),
         }
     }
 }
 
-fn partitions_in(bytes: &[u8], start: usize, many: u8) -> [Partition; 8]
+// The first `many` rows from a place on, and blanks up to N.
+fn rows_in<T: Row, const N: usize>(bytes: &[u8], start: usize, many: u8) -> [T; N]
     requires { start < 2 ^ 16 }
-    ensures { result ≡ partitions_in bytes.now start many }
+    ensures { result ≡ rows (λ k. T.row_at bytes.now (start + T.SIZE * k)) T.blank N many }
 {
-    let mut partitions = [Partition::NONE; MOST_PARTITIONS];
-    for k in 0..MOST_PARTITIONS.min(many as usize) {
-        partitions[k] = Partition::read(bytes, start + PARTITION * k);
-    }
-    partitions
-}
-
-fn slots_in(bytes: &[u8], start: usize, many: u8) -> [Slot; 64]
-    requires { start < 2 ^ 16 }
-    ensures { result ≡ slots_in bytes.now start many }
-{
-    let mut slots = [Slot::NONE; MOST_SLOTS];
-    for k in 0..MOST_SLOTS.min(many as usize) {
-        slots[k] = Slot::read(bytes, start + SLOT * k);
-    }
-    slots
-}
-
-fn channels_in(bytes: &[u8], start: usize, many: u8) -> [Channel; 16]
-    requires { start < 2 ^ 16 }
-    ensures { result ≡ channels_in bytes.now start many }
-{
-    let mut channels = [Channel::NONE; MOST_CHANNELS];
-    for k in 0..MOST_CHANNELS.min(many as usize) {
-        channels[k] = Channel::read(bytes, start + CHANNEL * k);
-    }
-    channels
+    array::from_fn(
+        |k: usize| -> T
+            requires { start < 2 ^ 16 }
+        {
+            if k < usize::from(many) {
+                T::read(bytes, start + T::SIZE * k)
+            } else {
+                T::default()
+            }
+        },
+    )
 }

@@ -1,7 +1,7 @@
 // The rules of a plan that need no memory, and the parser, which refuses with the first that is broken.
-ghost use Rattle.std.specs.Prelude.{◌≡◌, slice_index_or};
+ghost use Rattle.std.specs.Prelude.{◌≡◌};
 ghost use Rattle.words.specs.First.{first, most, unless};
-ghost use Rattle.plan.specs.Rules.{ample, budget_fault, channel, channel_fault, channels_out, count_fault, parsed, partition, slot, slot_fault, start_fault};
+ghost use Rattle.plan.specs.Rules.{ample, budget_fault, channel, channel_fault, channels_out, count_fault, fault, parsed, partition, slot, slot_fault, start_fault};
 ghost use Rattle.plan.specs.Lawful.{Judges};
 
 use crate::model::*;
@@ -16,24 +16,19 @@ const LEAST_BUDGET: u32 = 64;
 
 const MOST_BUDGET: u32 = 100_000;
 
-fn row<T: Copy>(rows: &[T], k: usize, none: T) -> T
-    ensures { result ≡ slice_index_or rows.now k none }
-{
-    if k < rows.len() { rows[k] } else { none }
-}
-
 impl Counts {
     // Whether each count is in its range.
+    #[tactic(auto, unfolding(words::specs::First::first))]
     pub fn check(self) -> Result<(), Refusal>
         ensures { result ≡ unless (first (count_fault self) 3) tt }
     {
-        if self.partitions < 1 || self.partitions > 8 {
+        if !(1..=MOST_PARTITIONS).contains(&usize::from(self.partitions)) {
             return Err(Refusal::CountRange(Count::Partitions));
         }
-        if self.slots < 1 || self.slots > 64 {
+        if !(1..=MOST_SLOTS).contains(&usize::from(self.slots)) {
             return Err(Refusal::CountRange(Count::Slots));
         }
-        if self.channels > 16 {
+        if usize::from(self.channels) > MOST_CHANNELS {
             return Err(Refusal::CountRange(Count::Channels));
         }
         Ok(())
@@ -45,30 +40,29 @@ impl Plan {
     pub fn partition(&self, k: usize) -> Partition
         ensures { result ≡ partition self.now k }
     {
-        row(&self.partitions, k, Partition::NONE)
+        self.partitions.get(k).copied().unwrap_or_default()
     }
 
     // Slot k of the plan; blank past the last.
     pub fn slot(&self, k: usize) -> Slot
         ensures { result ≡ slot self.now k }
     {
-        row(&self.slots, k, Slot::NONE)
+        self.slots.get(k).copied().unwrap_or_default()
     }
 
     // Channel k of the plan; blank past the last.
     pub fn channel(&self, k: usize) -> Channel
         ensures { result ≡ channel self.now k }
     {
-        row(&self.channels, k, Channel::NONE)
+        self.channels.get(k).copied().unwrap_or_default()
     }
 
     fn check_slot(&self, k: u8) -> Result<(), Refusal>
         ensures { result ≡ unless (slot_fault self.now k) tt }
     {
-        let slot = self.slot(k as usize);
-        if slot.partition >= self.counts.partitions
-            || slot.length < SHORTEST_SLOT
-            || slot.length > LONGEST_SLOT
+        let Slot { partition, length } = self.slot(usize::from(k));
+        if partition >= self.counts.partitions
+            || !(SHORTEST_SLOT..=LONGEST_SLOT).contains(&length)
         {
             return Err(Refusal::SlotRule(k));
         }
@@ -79,16 +73,13 @@ impl Plan {
     pub fn check_slots(&self) -> Result<(), Refusal>
         ensures { result ≡ unless (first (slot_fault self.now) self.now.counts.slots) tt }
     {
-        for k in 0..self.counts.slots {
-            self.check_slot(k)?;
-        }
-        Ok(())
+        (0..self.counts.slots).try_for_each(|k| self.check_slot(k))
     }
 
     fn check_channel(&self, k: u8) -> Result<(), Refusal>
         ensures { result ≡ unless (channel_fault self.now k) tt }
     {
-        let Channel { sender, receiver } = self.channel(k as usize);
+        let Channel { sender, receiver } = self.channel(usize::from(k));
         let partitions = self.counts.partitions;
         if sender.partition >= partitions
             || receiver.partition >= partitions
@@ -103,16 +94,13 @@ impl Plan {
     pub fn check_channels(&self) -> Result<(), Refusal>
         ensures { result ≡ unless (first (channel_fault self.now) self.now.counts.channels) tt }
     {
-        for k in 0..self.counts.channels {
-            self.check_channel(k)?;
-        }
-        Ok(())
+        (0..self.counts.channels).try_for_each(|k| self.check_channel(k))
     }
 
     fn check_start(&self, k: u8) -> Result<(), Refusal>
         ensures { result ≡ unless (start_fault self.now k) tt }
     {
-        if self.partition(k as usize).start % 4 != 0 {
+        if self.partition(usize::from(k)).start % 4 != 0 {
             return Err(Refusal::StartMisaligned(k));
         }
         Ok(())
@@ -122,33 +110,25 @@ impl Plan {
     pub fn check_starts(&self) -> Result<(), Refusal>
         ensures { result ≡ unless (first (start_fault self.now) self.now.counts.partitions) tt }
     {
-        for k in 0..self.counts.partitions {
-            self.check_start(k)?;
-        }
-        Ok(())
+        (0..self.counts.partitions).try_for_each(|k| self.check_start(k))
     }
 
     // How many channels lead out of a partition.
     pub fn channels_out(&self, partition: u8) -> u8
         ensures { result ≡ channels_out self.now partition }
     {
-        let mut out = 0;
-        for k in 0..self.counts.channels {
-            if self.channel(k as usize).sender.partition == partition {
-                out += 1;
-            }
-        }
-        out
+        (0..self.counts.channels)
+            .filter(|k| self.channel(usize::from(*k)).sender.partition == partition)
+            .count() as u8
     }
 
     fn most_channels_out(&self) -> u8
         ensures { result ≡ most (channels_out self.now) self.now.counts.partitions }
     {
-        let mut most = 0;
-        for who in 0..self.counts.partitions {
-            most = self.channels_out(who).max(most);
-        }
-        most
+        (0..self.counts.partitions)
+            .map(|who| self.channels_out(who))
+            .max()
+            .unwrap_or(0)
     }
 
     // The least budget that covers every switch: the rest of the last instruction, the write-back of every line, and the
@@ -163,34 +143,36 @@ impl Plan {
     pub fn check_budget(&self) -> Result<(), Refusal>
         ensures { result ≡ unless (budget_fault self.now) tt }
     {
-        if self.budget < LEAST_BUDGET
-            || self.budget > MOST_BUDGET
+        if !(LEAST_BUDGET..=MOST_BUDGET).contains(&self.budget)
             || self.budget < self.ample_budget()
         {
             return Err(Refusal::BudgetRule);
         }
         Ok(())
     }
+
+    // Whether the plan, read from these bytes, keeps every rule, asked in the order of their numbers.
+    #[tactic(auto, unfolding(crate::specs::Rules::fault))]
+    fn check(&self, bytes: &[u8]) -> Result<(), Refusal>
+        ensures { result ≡ unless (fault bytes.now self.now) tt }
+    {
+        self.check_whole(bytes)?;
+        self.counts.check()?;
+        self.check_slots()?;
+        self.check_channels()?;
+        self.check_starts()?;
+        self.check_budget()?;
+        self.check_end(bytes)
+    }
 }
 
 // The plan that the bytes say, or the refusal of the first rule that they break.
+#[tactic(auto, unfolding(crate::specs::Rules::parsed))]
 pub fn parse(bytes: &[u8]) -> Result<Plan, Refusal>
     ensures value { result ≡ parsed bytes.now }
     ensures verdict { Judges bytes.now result }
 {
-    first_fault(bytes)
-}
-
-fn first_fault(bytes: &[u8]) -> Result<Plan, Refusal>
-    ensures { result ≡ parsed bytes.now }
-{
     let plan = Plan::read(bytes);
-    plan.check_whole(bytes)?;
-    plan.counts.check()?;
-    plan.check_slots()?;
-    plan.check_channels()?;
-    plan.check_starts()?;
-    plan.check_budget()?;
-    plan.check_end(bytes)?;
+    plan.check(bytes)?;
     Ok(plan)
 }

@@ -13,81 +13,79 @@ const PLAN: [u8; 39] = [
     0, 1, 17, 0, 0, 0, 18, 0, 0, 0,
 ];
 
-// Number and place of the refusal, 0 and 0 where the plan is accepted.
-fn verdict(bytes: &[u8]) -> (u8, usize) {
-    match parse(bytes) {
-        Ok(_) => (0, 0),
-        Err(refusal) => (refusal.number(), refusal.place()),
-    }
+// Number and place of the refusal, none where the plan is accepted.
+fn verdict(bytes: &[u8]) -> Option<(u8, usize)> {
+    let refusal = parse(bytes).err()?;
+    Some((refusal.number(), refusal.place()))
 }
 
 #[derive(Clone, Copy)]
 struct Edit(usize, u8);
 
 #[derive(Clone, Copy)]
-struct Case(Edit, Edit, u8, usize);
+struct Case(Edit, Edit, Option<(u8, usize)>);
 
 const SAME: Edit = Edit(0, 2);
 
 // each rule on both sides of its edges, then two broken rules at once
 const CASES: [Case; 33] = [
-    Case(SAME, SAME, 0, 0),
-    Case(Edit(1, 0), SAME, 2, 1),
-    Case(Edit(19, 1), SAME, 0, 0),
-    Case(Edit(19, 2), SAME, 3, 0),
-    Case(Edit(24, 255), SAME, 3, 1),
-    Case(Edit(20, 127), SAME, 3, 0),
-    Case(Edit(20, 129), SAME, 0, 0),
-    Case(Edit(25, 0x41), SAME, 3, 1),
-    Case(Edit(25, 0x3f), SAME, 0, 0),
-    Case(Edit(28, 1), SAME, 3, 1),
-    Case(Edit(29, 2), SAME, 4, 0),
-    Case(Edit(29, 1), SAME, 4, 0),
-    Case(Edit(30, 2), SAME, 4, 0),
-    Case(Edit(30, 0), SAME, 4, 0),
-    Case(Edit(29, 1), Edit(30, 0), 0, 0),
-    Case(Edit(9, 2), SAME, 9, 0),
-    Case(Edit(9, 4), SAME, 0, 0),
-    Case(Edit(15, 5), SAME, 9, 1),
-    Case(Edit(15, 8), SAME, 0, 0),
-    Case(Edit(3, 0xd9), SAME, 10, 3),
-    Case(Edit(3, 0xdb), SAME, 0, 0),
-    Case(Edit(6, 1), SAME, 10, 3),
-    Case(Edit(4, 0), SAME, 10, 3),
-    Case(Edit(0, 3), SAME, 1, 39),
-    Case(Edit(1, 3), SAME, 1, 39),
-    Case(Edit(2, 2), SAME, 1, 39),
-    Case(Edit(2, 0), SAME, 12, 29),
-    Case(Edit(20, 127), Edit(24, 9), 3, 0),
-    Case(Edit(24, 9), Edit(29, 1), 3, 1),
-    Case(Edit(30, 0), Edit(9, 1), 4, 0),
-    Case(Edit(15, 1), Edit(3, 0), 9, 1),
-    Case(Edit(2, 0), Edit(4, 0), 10, 3),
-    Case(Edit(0, 0), Edit(1, 0), 2, 0),
+    Case(SAME, SAME, None),
+    Case(Edit(1, 0), SAME, Some((2, 1))),
+    Case(Edit(19, 1), SAME, None),
+    Case(Edit(19, 2), SAME, Some((3, 0))),
+    Case(Edit(24, 255), SAME, Some((3, 1))),
+    Case(Edit(20, 127), SAME, Some((3, 0))),
+    Case(Edit(20, 129), SAME, None),
+    Case(Edit(25, 0x41), SAME, Some((3, 1))),
+    Case(Edit(25, 0x3f), SAME, None),
+    Case(Edit(28, 1), SAME, Some((3, 1))),
+    Case(Edit(29, 2), SAME, Some((4, 0))),
+    Case(Edit(29, 1), SAME, Some((4, 0))),
+    Case(Edit(30, 2), SAME, Some((4, 0))),
+    Case(Edit(30, 0), SAME, Some((4, 0))),
+    Case(Edit(29, 1), Edit(30, 0), None),
+    Case(Edit(9, 2), SAME, Some((9, 0))),
+    Case(Edit(9, 4), SAME, None),
+    Case(Edit(15, 5), SAME, Some((9, 1))),
+    Case(Edit(15, 8), SAME, None),
+    Case(Edit(3, 0xd9), SAME, Some((10, 3))),
+    Case(Edit(3, 0xdb), SAME, None),
+    Case(Edit(6, 1), SAME, Some((10, 3))),
+    Case(Edit(4, 0), SAME, Some((10, 3))),
+    Case(Edit(0, 3), SAME, Some((1, 39))),
+    Case(Edit(1, 3), SAME, Some((1, 39))),
+    Case(Edit(2, 2), SAME, Some((1, 39))),
+    Case(Edit(2, 0), SAME, Some((12, 29))),
+    Case(Edit(20, 127), Edit(24, 9), Some((3, 0))),
+    Case(Edit(24, 9), Edit(29, 1), Some((3, 1))),
+    Case(Edit(30, 0), Edit(9, 1), Some((4, 0))),
+    Case(Edit(15, 1), Edit(3, 0), Some((9, 1))),
+    Case(Edit(2, 0), Edit(4, 0), Some((10, 3))),
+    Case(Edit(0, 0), Edit(1, 0), Some((2, 0))),
 ];
 
 #[test]
 fn each_rule_at_its_edges(rt: HostRuntime) {
     for case in &CASES {
         let mut bytes = PLAN;
-        let Case(Edit(at, value), Edit(also, other), number, place) = *case;
+        let Case(Edit(at, value), Edit(also, other), expected) = *case;
         assert!(rt; at < 39 && also < 39);
         bytes[at] = value;
         if also != 0 {
             bytes[also] = other;
         }
-        assert_eq!(rt; verdict(&bytes), (number, place));
+        assert_eq!(rt; verdict(&bytes), expected);
     }
 }
 
 #[test]
 fn bytes_too_few_and_too_many(rt: HostRuntime) {
     for length in 0..39 {
-        assert_eq!(rt; verdict(&PLAN[0..length]), (1, length));
+        assert_eq!(rt; verdict(&PLAN[0..length]), Some((1, length)));
     }
     let mut longer = [0; 40];
     longer[0..39].copy_from_slice(&PLAN);
-    assert_eq!(rt; verdict(&longer), (12, 39));
+    assert_eq!(rt; verdict(&longer), Some((12, 39)));
 }
 
 #[test]
@@ -100,29 +98,44 @@ fn counts_past_their_range(rt: HostRuntime) {
     ] {
         let mut bytes = [0; 700];
         bytes[0..3].copy_from_slice(&counts);
-        assert_eq!(rt; verdict(&bytes), (number, place));
+        assert_eq!(rt; verdict(&bytes), Some((number, place)));
     }
+}
+
+// budgets, and whether each is in range and ample with the channel and without it
+const BUDGETS: [(u32, bool, bool); 7] = [
+    (63, false, false),
+    (729, false, false),
+    (730, false, true),
+    (1753, false, true),
+    (1754, true, true),
+    (100_000, true, true),
+    (100_001, false, false),
+];
+
+fn refused_unless(ample: bool) -> Option<(u8, usize)> {
+    if ample { None } else { Some((10, 3)) }
 }
 
 #[test]
 fn budgets(rt: HostRuntime) {
-    for (budget, ample_with, ample_without) in [
-        (63u32, false, false),
-        (729, false, false),
-        (730, false, true),
-        (1753, false, true),
-        (1754, true, true),
-        (100_000, true, true),
-        (100_001, false, false),
-    ] {
+    for (budget, ample_with, ample_without) in BUDGETS {
         let mut plan = PLAN;
         plan[3..7].copy_from_slice(&budget.to_le_bytes());
-        assert_eq!(rt; verdict(&plan), if ample_with { (0, 0) } else { (10, 3) });
+        assert_eq!(rt; verdict(&plan), refused_unless(ample_with));
         plan[2] = 0;
-        assert_eq!(rt;
-            verdict(&plan[0..29]),
-            if ample_without { (0, 0) } else { (10, 3) }
-        );
+        assert_eq!(rt; verdict(&plan[0..29]), refused_unless(ample_without));
+    }
+}
+
+#[test]
+fn budgets_alone(rt: HostRuntime) {
+    for (budget, ample_with, ample_without) in BUDGETS {
+        let mut plan = Plan::read(&PLAN);
+        plan.budget = budget;
+        assert_eq!(rt; plan.check_budget().is_ok(), ample_with);
+        plan.counts.channels = 0;
+        assert_eq!(rt; plan.check_budget().is_ok(), ample_without);
     }
 }
 
@@ -168,25 +181,6 @@ fn turns_end_before_they_wrap(rt: HostRuntime) -> Result<(), Fail> {
         .is_none()
     );
     Ok(())
-}
-
-#[test]
-fn budgets_alone(rt: HostRuntime) {
-    for (budget, ample_with, ample_without) in [
-        (63u32, false, false),
-        (729, false, false),
-        (730, false, true),
-        (1753, false, true),
-        (1754, true, true),
-        (100_000, true, true),
-        (100_001, false, false),
-    ] {
-        let mut plan = Plan::read(&PLAN);
-        plan.budget = budget;
-        assert_eq!(rt; plan.check_budget().is_ok(), ample_with);
-        plan.counts.channels = 0;
-        assert_eq!(rt; plan.check_budget().is_ok(), ample_without);
-    }
 }
 
 #[test]

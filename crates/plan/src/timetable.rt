@@ -5,7 +5,7 @@ ghost use Rattle.plan.specs.Timetable.{next_turn, slot_of};
 use crate::model::{Plan, Slot};
 
 // One slot of a run: how many ran before it, and the clock at which it begins.
-#[derive(Clone, Copy)]
+#[derive(Clone, Copy, Debug, PartialEq, Eq)]
 pub struct Turn {
     pub number: u32,
     pub begin: u64,
@@ -17,16 +17,11 @@ impl Turn {
         begin: 0,
     };
 
-    // The plan's slot that runs in this turn; the slots go round.
+    // The plan's slot that runs in this turn.
     pub fn slot(self, plan: &Plan) -> Slot
         ensures { result ≡ slot_of plan.now self.number }
     {
-        let slots = plan.counts.slots as u32;
-        plan.slot(if slots == 0 {
-            self.number as usize
-        } else {
-            self.number as usize % slots as usize
-        })
+        plan.slot_of(self.number)
     }
 
     // The turn after this one; none where its number or its clock would not fit.
@@ -36,8 +31,8 @@ impl Turn {
         let number = self.number.checked_add(1)?;
         let begin = self
             .begin
-            .checked_add(self.slot(plan).length as u64)?
-            .checked_add(plan.budget as u64)?;
+            .checked_add(u64::from(self.slot(plan).length))?
+            .checked_add(u64::from(plan.budget))?;
         Some(Turn { number, begin })
     }
 }
@@ -47,10 +42,8 @@ impl Plan {
     pub fn slot_of(&self, turn: u32) -> Slot
         ensures { result ≡ slot_of self.now turn }
     {
-        let turn = Turn {
-            number: turn,
-            begin: 0,
-        };
-        turn.slot(self)
+        let slots = u32::from(self.counts.slots);
+        let slot = turn.checked_rem(slots).unwrap_or(turn);
+        self.slot(slot as usize)
     }
 }

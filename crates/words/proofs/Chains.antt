@@ -1,10 +1,12 @@
 -- Chains over the numbers below n, carried to the questions over the places below n.
 -- Each lemma takes the function that the closure computes, n, the clauses of the chain's calls, and what one call of the closure gives,
 -- as in `first_over_range _ _ refl c.try_for_each.ensures.ran (λ k v q z. search rules)`.
-use Rattle.std.proofs.Common.{◌≡◌, ℕ, zero, suc, ◌+◌, ◌-◌, ◌<◌, ◌≤◌, max, Bool, true, false, cond, ◌||◌, Break, List, [], ◌∷◌, ◌++◌, length, Some, None, Ok, Err, Option, Result, sym, refl, ap, subst, ◌∙◌, add-one, length-append, arith}
+use Rattle.std.proofs.Common.{◌≡◌, ℕ, zero, suc, ◌+◌, ◌-◌, ◌<◌, ◌≤◌, max, Bool, true, false, cond, ◌||◌, Break, List, [], ◌∷◌, ◌++◌, length, get_or, map, Some, None, Ok, Err, Option, Result, sym, refl, ap, subst, ◌∙◌, inl, inr, add-one, length-append, arith}
 use denote.Param.Members.{Mut}
 use denote.Ref.{Bor}
 use Rattle.std.specs.declared.ops.Range.{Range}
+use Rattle.std.specs.Array.{IsFromFnResult, IsFromFnResultFrom}
+use Rattle.std.proofs.lemmas.Bool.{cases_eq}
 use Rattle.std.specs.Fn.{Called, CalledAt}
 use Rattle.std.specs.Iterator.{Drains, PicksByCmp, YieldsThen, TryForEachTurn, TryCallsOnEach}
 use Rattle.std.specs.Iterator.Adapters.{filter_source, filter_callee, filter_steps, map_source, map_callee}
@@ -18,7 +20,7 @@ use Rattle.std.proofs.lemmas.Iterator.Consumers.{YieldsList-from_filter, count_f
 use Rattle.std.proofs.lemmas.Iterator.Search.{any_from_yields_List}
 use Rattle.std.proofs.lemmas.Result.{err_from_is_err_and}
 use Rattle.std.proofs.lemmas.List.{map-id}
-use Rattle.std.proofs.lemmas.List.FromFn.{map-range_with_len_more}
+use Rattle.std.proofs.lemmas.List.FromFn.{fill_by_all, map-range_with_len_more}
 use Rattle.std.proofs.lemmas.List.Folds.{list_any-append, max_of_map}
 use Rattle.std.proofs.lemmas.List.Elements.{filter-append}
 use Rattle.std.proofs.lemmas.List.Sums.{fold-append}
@@ -112,3 +114,20 @@ pub fold_over_range : {F : Type 0} {g : Mut F (ℕ × (ℕ × Unit {0})) ℕ} {p
     ((xs : List ℕ) × (q : F) × Drains nat_range_steps s xs × FoldsTo {P = F × ℕ} (λ a x b. Called g a.0 (a.1, (x, tt)) b.1 b.0) (p, 0) xs (q, r)) →
     ((a k b : ℕ) (q : F) → Called g p (a, (k, tt)) b q → (q ≡ p) × (b ≡ max a (f k))) → r ≡ most f n
 fold_over_range {g = g} {r = r} f n source ran computes = fold_from_yields_List g (λ a k. max a (f k)) 0 r ran (YieldsList-from_range 0 n n source (omega arith)) computes ∙ most_of_list f n
+
+-- `array::from_fn(g)`, as `array_from_calls (g) c.from_fn.ensures.items (λ k l v q z. search rules)`
+module _ {X F : Type 0} (g : Mut F (ℕ × Unit {0}) X) (f : F) (h : ℕ → X) (n : ℕ) (xs : List X)
+    (computes : (k : ℕ) → k < n → (v : X) (q : F) → Called g f (k, tt) v q → (q ≡ f) × (v ≡ h k)) where
+  element : (m i : ℕ) (p : F) → p ≡ f → i + m ≡ n → IsFromFnResultFrom g p xs i m → (k : ℕ) (d : X) → i ≤ k → k < n → get_or xs k d ≡ h k
+  element zero i p same end calls k d low high = absurd (omega arith)
+  element (suc m) i p same end calls k d low high =
+      let call : Called g f (i, tt) calls.1 calls.0 = subst (λ w. Called g w (i, tt) calls.1 calls.0) same calls.3 in
+      let told = computes i (omega arith) calls.1 calls.0 call in
+      elim (cases_eq k i) [
+        | inl here ↦ rw here (calls.2.1 d ∙ told.1)
+        | inr past ↦ element m (i + 1) calls.0 told.0 (omega arith) calls.4 k d (omega arith) high
+      ]
+
+pub array_from_calls : {X F : Type 0} {g : Mut F (ℕ × Unit {0}) X} {f : F} {n : ℕ} {xs : List X} (h : ℕ → X) → IsFromFnResult g f xs n →
+    ((k : ℕ) → k < n → (v : X) (q : F) → Called g f (k, tt) v q → (q ≡ f) × (v ≡ h k)) → xs ≡ map h (range_with_len 0 n)
+array_from_calls {g = g} {f = f} {n = n} {xs = xs} h calls computes = fill_by_all h xs n (h 0) calls.long (λ k l. element g f h n xs computes n 0 f refl (omega arith) calls.each k (h 0) (omega arith) l)

@@ -1,7 +1,8 @@
 -- Laws of numbers in bytes.
-use Rattle.std.proofs.Common.{◌≡◌, ℕ, zero, suc, ◌+◌, ◌-◌, ◌*◌, ◌^◌, ◌<◌, ◌≤◌, List, length, take, refl, subst, add-zero, mul_assoc, suc-add, zero-add, arith}
+use Rattle.std.proofs.Common.{◌≡◌, ℕ, zero, suc, ◌+◌, ◌-◌, ◌*◌, ◌^◌, ◌<◌, ◌≤◌, List, length, take, min, refl, sym, ◌∙◌, inl, inr, subst, add-zero, mul_assoc, suc-add, zero-add, arith}
 use native.Mathlib.Nat.{mul-add-div, div-eq_of_lt, pow-succ'}
 use Rattle.std.proofs.lemmas.List.{get_or_past, get_or-take}
+use Rattle.std.proofs.lemmas.Bool.{cases_lt}
 use Rattle.words.specs.Bytes.{byte, number}
 use Rattle.words.specs.Laws.{LowByteFirst}
 
@@ -41,3 +42,10 @@ low_byte_first bytes at count k h l =
 pub number_take : (bytes : List ℕ) (n at count : ℕ) → at + count ≤ n → number (take n bytes) at count ≡ number bytes at count
 number_take bytes n at zero h = refl
 number_take bytes n at (suc count) h = rw (get_or-take n bytes at 0 (omega arith), number_take bytes n (at + 1) count (omega arith)) refl
+
+-- no byte lies past a place that the bytes end before
+pub byte_below : (bytes : List ℕ) (at top : ℕ) → length bytes ≤ top → byte bytes (min at top) ≡ byte bytes at
+byte_below bytes at top l = elim (cases_lt at top) [
+  | inl h ↦ let e : min at top ≡ at = omega arith in rw e
+  | inr h ↦ let e : min at top ≡ top = omega arith in rw e (get_or_past bytes top 0 l ∙ sym (get_or_past bytes at 0 (omega arith)))
+]

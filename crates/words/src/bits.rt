@@ -12,16 +12,15 @@ pub fn bits(word: u32, low: u32, count: u32) -> u32
 fn shifted(word: u32, low: u32) -> u32
     ensures { result ≡ word / 2 ^ low }
 {
-    if low < 32 { word >> low } else { 0 }
+    word.checked_shr(low).unwrap_or(0)
 }
 
 fn low_bits(word: u32, count: u32) -> u32
     ensures { result ≡ word % 2 ^ count }
 {
-    if count < 32 {
-        word & ((1 << count) - 1)
-    } else {
-        word
+    match 1u32.checked_shl(count) {
+        Some(span) => word & (span - 1),
+        None => word,
     }
 }
 

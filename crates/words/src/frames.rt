@@ -17,7 +17,7 @@ pub fn read(words: &[u32], frame: u32, offset: u32) -> u32
     ensures { result ≡ word words.now frame offset }
 {
     let at = frame as usize * FRAME_WORDS + offset as usize;
-    if at < words.len() { words[at] } else { 0 }
+    words.get(at).copied().unwrap_or(0)
 }
 
 // Writes that word; nothing where none is lent.
@@ -25,6 +25,7 @@ pub fn write(words: &mut [u32], frame: u32, offset: u32, value: u32)
     ensures { words.new ≡ written words.old frame offset value }
 {
     let at = frame as usize * FRAME_WORDS + offset as usize;
+    // by index: what is written through a slice's `get_mut` is known to no proof
     if at < words.len() {
         words[at] = value;
     }
@@ -40,6 +41,7 @@ pub fn copy(words: &mut [u32], from: u32, to: u32)
     }
 }
 
+// Fetched and written over, and no `copy_within`: a frame is lent on as a part of the words (a rule of the project).
 fn fetched(words: &[u32], frame: usize) -> [u32; 1024]
     requires { frame * 1024 + 1024 ≤ length words.now }
     ensures { result ≡ contents words.now frame }

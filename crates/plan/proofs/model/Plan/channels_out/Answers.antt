@@ -1,13 +1,9 @@
-use Rattle.std.proofs.Common.{rules}
-use Rattle.words.proofs.First.{count_none, count_more, count_at_most}
+use Rattle.std.proofs.Common.{◌≡◌, rules, arith}
+use borrow.Author.Tests.{tests}
+use Rattle.words.proofs.Chains.{count_over_range}
+use Rattle.words.proofs.First.{count_at_most}
 use Rattle.plan.specs.Rules.{leaves}
 use Rattle.plan.proofs.model.Plan.channels_out.Goals as goal
 
-pub loop-k-init : goal.loop-k-init
-loop-k-init c = search (rules, count_none)
-
-pub overflow_add-out : goal.overflow_add-out
-overflow_add-out c = search (rules, count_at_most (leaves c.args.self.now c.args.partition) c.loop-k.k)
-
-pub loop-k-preserved : goal.loop-k-preserved
-loop-k-preserved c = search (rules, count_more)
+pub returns : goal.returns
+returns c = count_over_range (leaves c.args.self.now c.args.partition) c.args.self.now.counts.channels c.filter.ensures.source c.filter.ensures.closure c.count.ensures.ran (λ k b q z. search (rules, tests))

@@ -1,19 +1,6 @@
-use Rattle.std.proofs.Common.{sym, ◌∙◌, arith}
-use Rattle.std.proofs.lemmas.Result.{err_from_is_err_and}
-use Rattle.words.proofs.First.{first_none, checked_more, checked_stops, checked_all}
-use Rattle.plan.specs.Rules.{slot_fault}
+use Rattle.std.proofs.Common.{rules, refl}
+use Rattle.words.proofs.Chains.{first_over_range}
 use Rattle.plan.proofs.model.Plan.check_slots.Goals as goal
 
-pub loop-k-init : goal.loop-k-init
-loop-k-init c = first_none (slot_fault c.args.self.now)
-
-pub loop-k-preserved : goal.loop-k-preserved
-loop-k-preserved c = checked_more (slot_fault c.args.self.now) c.loop-k.k tt c.in_ok-check_slot.field-0 c.loop-k.invariant (sym c.check_slot.ensures ∙ c.in_ok-check_slot.was)
-
-pub returns-in_err-check_slot : goal.returns-in_err-check_slot
-returns-in_err-check_slot c =
-    let p = err_from_is_err_and c.from_residual.result c.from_residual.ensures.1 in
-    rw (p.1, p.2) (sym (checked_stops (slot_fault c.args.self.now) c.loop-k.k c.args.self.now.counts.slots tt c.in_err-check_slot.field-0.0 c.loop-k-test.true c.loop-k.invariant (sym c.check_slot.ensures ∙ c.in_err-check_slot.was)))
-
 pub returns : goal.returns
-returns c = sym (checked_all (slot_fault c.args.self.now) c.loop-k.k c.args.self.now.counts.slots tt c.loop-k.invariant (omega arith))
+returns c = first_over_range _ _ refl c.try_for_each.ensures.ran (λ k v q z. search rules)
