@@ -17,14 +17,14 @@ use crate::pages::{Ends, all_ends, check_pages};
 use crate::roots::check_roots;
 use crate::sharing::{check_lent, check_sharing};
 use crate::tables::check_tables;
-use plan::model::Plan;
+use plan::model::{MOST_CHANNELS, Plan};
 use plan::refusal::Refusal;
 
 // An accepted plan, and the two frames that each of its channels joins.
 #[derive(Clone, Copy)]
 pub struct Accepted {
     pub plan: Plan,
-    pub ends: [Ends; 16],
+    pub ends: [Ends; MOST_CHANNELS],
 }
 
 // The plan that the bytes say, with the frames of its channels, or the refusal of the first rule that it or the lent words break.

@@ -5,6 +5,7 @@ ghost use Rattle.checker.specs.Tables.{Known, bad_leaf, bad_table, entry_fault, 
 
 use crate::fault::{Fault, check_frame};
 use crate::marks::Marks;
+use crate::roots::root;
 use paging::entry::Entry;
 use paging::walk::{ENTRIES, MOST_FRAMES};
 use plan::model::Plan;
@@ -87,9 +88,9 @@ fn check_tables_under(words: &[u32], root: u32) -> Result<(), Fault>
 fn check_tables_of(words: &[u32], plan: &Plan, k: u8) -> Result<(), Refusal>
     ensures { result ≡ unless (table_refusal words.now plan.now k) tt }
 {
-    check_tables_under(words, plan.partition(k as usize).root as u32).map_err(|fault| fault.refusal(
-        Refusal::TableMalformed(k),
-    ))
+    check_tables_under(words, root(plan, k)).map_err(|fault| fault.refusal(Refusal::TableMalformed(
+        k,
+    )))
 }
 
 // Whether the page tables of every partition are well formed.
