@@ -15,6 +15,7 @@ use words::frames::is_lent;
 pub(crate) fn check_sharing(words: &[u32], plan: &Plan) -> Result<(), Refusal>
     ensures { result ≡ unless (first (share_refusal words.now plan.now) plan.now.counts.partitions) tt }
 {
+    // a loop and no chain: a proof knows nothing of what a chain's closure changes
     let mut earlier = Claims::NONE;
     for k in 0..plan.counts.partitions {
         let own = Claims::of(words, root(plan, k));

@@ -65,6 +65,7 @@ fn check_entry(words: &[u32], root: u32, k: u32, known: &mut Marks) -> Result<()
     check_unless_known(words, entry.frame(), known)
 }
 
+// A loop and no chain: `known` grows from entry to entry, and a proof knows nothing of what a chain's closure changes.
 fn check_entries(words: &[u32], root: u32) -> Result<(), Fault>
     ensures { result ≡ unless (first (entry_fault_at words.now root) 1024) tt }
 {
