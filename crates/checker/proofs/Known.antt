@@ -1,5 +1,5 @@
 -- Tables that are known to be without fault.
-use Rattle.std.proofs.Common.{◌≡◌, ℕ, ◌<◌, Bool, ◌||◌, eqb, List, None, sym, ◌∙◌, subst, inl, inr}
+use Rattle.std.proofs.Common.{◌≡◌, ℕ, ◌||◌, eqb, List, None, sym, ◌∙◌, subst, inl, inr}
 use Rattle.std.proofs.lemmas.Bool.{or_cases, eqb-true}
 use Rattle.checker.specs.declared.marks.Marks.{Marks}
 use Rattle.checker.specs.Marks.{Shows, marked}

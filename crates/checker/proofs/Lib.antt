@@ -9,4 +9,3 @@ pub mod Joined
 pub mod Staged
 pub mod Judged
 pub mod Front
-pub mod Made

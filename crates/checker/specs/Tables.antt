@@ -1,5 +1,5 @@
 -- The rule on the form of page tables as tests: entries are read from the first on, and the first at fault decides.
-use Rattle.std.specs.Prelude.{◌≡◌, ℕ, ◌<◌, Bool, true, false, cond, not, ◌&&◌, List, Some, None, Option, nat_lt}
+use Rattle.std.specs.Prelude.{◌≡◌, ℕ, ◌<◌, Bool, true, cond, not, ◌&&◌, List, Some, None, Option, nat_lt}
 use Rattle.words.specs.First.{any, first, or_else}
 use Rattle.words.specs.Frames.{lent, word}
 use Rattle.paging.specs.Entries.{frame_of, is_leaf, is_pointer, is_valid}

@@ -17,14 +17,14 @@ use crate::pages::{Ends, all_ends, check_pages};
 use crate::roots::check_roots;
 use crate::sharing::{check_lent, check_sharing};
 use crate::tables::check_tables;
-use plan::model::Plan;
+use plan::model::{MOST_CHANNELS, Plan};
 use plan::refusal::Refusal;
 
 // An accepted plan, and the two frames that each of its channels joins.
 #[derive(Clone, Copy)]
 pub struct Accepted {
     pub plan: Plan,
-    pub ends: [Ends; 16],
+    pub ends: [Ends; MOST_CHANNELS],
 }
 
 // The plan that the bytes say, with the frames of its channels, or the refusal of the first rule that it or the lent words break.
@@ -35,6 +35,7 @@ pub fn check(bytes: &[u8], words: &[u32]) -> Result<Accepted, Refusal>
     first_refusal(bytes, words)
 }
 
+// The plan and the words stay two parameters: with both in a struct, clauses say `self.entry.words.now` where they say `words.now`.
 // Apart from `check`: in one function the verdict stayed open at eleven of its thirteen returns.
 #[tactic(auto, unfolding(crate::specs::Checked::checked, crate::specs::Checked::first_refusal))]
 fn first_refusal(bytes: &[u8], words: &[u32]) -> Result<Accepted, Refusal>

@@ -31,6 +31,7 @@ impl Marks {
     pub(crate) fn mark(&mut self, frame: u32)
         ensures { Shows self.new (λ f. marked self.old f || frame == f) }
     {
+        // by index: what is written through `get_mut` is known to no proof
         if frame < MOST_FRAMES {
             self.marks[frame as usize] = true;
         }

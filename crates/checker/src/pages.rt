@@ -6,10 +6,11 @@ ghost use Rattle.words.specs.First.{any, first, unless};
 ghost use Rattle.checker.specs.Pages.{behind, end_frame, ends_or_none, looked_up, meets, no_ends, page_fault, page_refusal, touch};
 
 use crate::fault::{Fault, check_frame};
+use crate::roots::root;
 use paging::entry::Entry;
 use paging::leaf::Leaf;
 use paging::walk::{ENTRIES, MOST_FRAMES};
-use plan::model::{Channel, Endpoint, Plan};
+use plan::model::{Channel, Endpoint, MOST_CHANNELS, Plan};
 use plan::refusal::Refusal;
 use std::array;
 use words::frames::read;
@@ -59,8 +60,7 @@ fn look_up(words: &[u32], root: u32, page: u32) -> Result<Leaf, Fault>
 fn end_frame(words: &[u32], plan: &Plan, end: Endpoint, receives: bool) -> Result<u32, Fault>
     ensures { result ≡ end_frame words.now plan.now end receives }
 {
-    let root = plan.partition(end.partition as usize).root as u32;
-    let leaf = look_up(words, root, end.page)?;
+    let leaf = look_up(words, root(plan, end.partition), end.page)?;
     if leaf.readable && !(receives && leaf.writable) {
         Ok(leaf.frame)
     } else {
@@ -72,7 +72,7 @@ fn end_frame(words: &[u32], plan: &Plan, end: Endpoint, receives: bool) -> Resul
 fn behind(words: &[u32], plan: &Plan, k: u8) -> Result<Ends, Fault>
     ensures { result ≡ behind words.now plan.now k }
 {
-    let Channel { sender, receiver } = plan.channel(k as usize);
+    let Channel { sender, receiver } = plan.channel(usize::from(k));
     let sender = end_frame(words, plan, sender, false)?;
     let receiver = end_frame(words, plan, receiver, true)?;
     Ok(Ends { sender, receiver })
@@ -125,7 +125,7 @@ fn ends_or_none(words: &[u32], plan: &Plan, k: u8) -> Ends
 fn ends_or_blank(words: &[u32], plan: &Plan, k: usize) -> Ends
     ensures { result ≡ cond (nat_lt k plan.now.counts.channels) (ends_or_none words.now plan.now k) no_ends }
 {
-    if k < plan.counts.channels as usize {
+    if k < usize::from(plan.counts.channels) {
         ends_or_none(words, plan, k as u8)
     } else {
         Ends::default()
@@ -133,7 +133,7 @@ fn ends_or_blank(words: &[u32], plan: &Plan, k: usize) -> Ends
 }
 
 // The frames of every channel, 0 where there are none.
-pub(crate) fn all_ends(words: &[u32], plan: &Plan) -> [Ends; 16]
+pub(crate) fn all_ends(words: &[u32], plan: &Plan) -> [Ends; MOST_CHANNELS]
     ensures { result ≡ rows (ends_or_none words.now plan.now) no_ends 16 plan.now.counts.channels }
 {
     array::from_fn(|k| ends_or_blank(words, plan, k))

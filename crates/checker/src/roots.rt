@@ -1,6 +1,7 @@
 // The rule on the lent frames and the roots: at most 256 frames, and each root one of them, no other partition's.
 ghost use Rattle.std.specs.Prelude.{◌≡◌};
 ghost use Rattle.words.specs.First.{any, first, unless};
+ghost use Rattle.checker.specs.Lawful.{root};
 ghost use Rattle.checker.specs.Roots.{root_refusal, same_root};
 
 use paging::walk::MOST_FRAMES;
@@ -8,19 +9,23 @@ use plan::model::Plan;
 use plan::refusal::Refusal;
 use words::frames::FRAME_WORDS;
 
+pub(crate) fn root(plan: &Plan, k: u8) -> u32
+    ensures { result ≡ root plan.now k }
+{
+    u32::from(plan.partition(usize::from(k)).root)
+}
+
 fn root_is_taken(plan: &Plan, k: u8) -> bool
     ensures { result ≡ any (same_root plan.now k) k }
 {
-    let root = plan.partition(k as usize).root;
-    (0..k).any(|j| plan.partition(j as usize).root == root)
+    (0..k).any(|j| root(plan, j) == root(plan, k))
 }
 
 fn check_root(words: &[u32], plan: &Plan, k: u8) -> Result<(), Refusal>
     ensures { result ≡ unless (root_refusal words.now plan.now k) tt }
 {
-    let root = plan.partition(k as usize).root as u32;
     if words.len() / FRAME_WORDS > MOST_FRAMES as usize
-        || root >= MOST_FRAMES
+        || root(plan, k) >= MOST_FRAMES
         || root_is_taken(plan, k)
     {
         return Err(Refusal::RootRule(k));

@@ -5,6 +5,7 @@ ghost use Rattle.checker.specs.Sharing.{Joined, lent_refusal, missing_mark, name
 
 use crate::claims::Claims;
 use crate::marks::Marks;
+use crate::roots::root;
 use paging::walk::MOST_FRAMES;
 use plan::model::Plan;
 use plan::refusal::Refusal;
@@ -14,9 +15,10 @@ use words::frames::is_lent;
 pub(crate) fn check_sharing(words: &[u32], plan: &Plan) -> Result<(), Refusal>
     ensures { result ≡ unless (first (share_refusal words.now plan.now) plan.now.counts.partitions) tt }
 {
+    // a loop and no chain: a proof knows nothing of what a chain's closure changes
     let mut earlier = Claims::NONE;
     for k in 0..plan.counts.partitions {
-        let own = Claims::of(words, plan.partition(k as usize).root as u32);
+        let own = Claims::of(words, root(plan, k));
         if own.clashes(&earlier) {
             return Err(Refusal::FrameShared(k));
         }
@@ -30,7 +32,7 @@ fn all_named(words: &[u32], plan: &Plan) -> Marks
 {
     let mut named = Marks::NONE;
     for who in 0..plan.counts.partitions {
-        named.add(&Claims::of(words, plan.partition(who as usize).root as u32).named);
+        named.add(&Claims::of(words, root(plan, who)).named);
     }
     named
 }

@@ -5,6 +5,7 @@ ghost use Rattle.checker.specs.Tables.{Known, bad_leaf, bad_table, entry_fault, 
 
 use crate::fault::{Fault, check_frame};
 use crate::marks::Marks;
+use crate::roots::root;
 use paging::entry::Entry;
 use paging::walk::{ENTRIES, MOST_FRAMES};
 use plan::model::Plan;
@@ -64,6 +65,7 @@ fn check_entry(words: &[u32], root: u32, k: u32, known: &mut Marks) -> Result<()
     check_unless_known(words, entry.frame(), known)
 }
 
+// A loop and no chain: `known` grows from entry to entry, and a proof knows nothing of what a chain's closure changes.
 fn check_entries(words: &[u32], root: u32) -> Result<(), Fault>
     ensures { result ≡ unless (first (entry_fault_at words.now root) 1024) tt }
 {
@@ -87,9 +89,9 @@ fn check_tables_under(words: &[u32], root: u32) -> Result<(), Fault>
 fn check_tables_of(words: &[u32], plan: &Plan, k: u8) -> Result<(), Refusal>
     ensures { result ≡ unless (table_refusal words.now plan.now k) tt }
 {
-    check_tables_under(words, plan.partition(k as usize).root as u32).map_err(|fault| fault.refusal(
-        Refusal::TableMalformed(k),
-    ))
+    check_tables_under(words, root(plan, k)).map_err(|fault| fault.refusal(Refusal::TableMalformed(
+        k,
+    )))
 }
 
 // Whether the page tables of every partition are well formed.

@@ -1,4 +1,4 @@
-use Rattle.std.proofs.Common.{false, rules}
+use Rattle.std.proofs.Common.{rules}
 use Rattle.checker.specs.Sharing.{named_at}
 use Rattle.checker.proofs.Shares.{joined_none, joined_more}
 use Rattle.checker.proofs.sharing.all_named.Goals as goal

@@ -1,9 +1,8 @@
-use Rattle.std.proofs.Common.{◌≡◌, ◌||◌, false, sym, ◌∙◌, arith, rules}
+use Rattle.std.proofs.Common.{false, sym, ◌∙◌, arith, rules}
 use Rattle.std.proofs.lemmas.List.{get_or-replicate}
-use Rattle.words.specs.First.{any}
 use Rattle.words.proofs.First.{any_none, any_step}
 use Rattle.paging.specs.Entries.{is_valid}
-use Rattle.checker.specs.Marks.{marked, named_through, names_in}
+use Rattle.checker.specs.Marks.{named_through, names_in}
 use Rattle.checker.proofs.marks.Marks.named.Goals as goal
 use Rattle.checker.proofs.marks.Marks.named.Goals.{then-has, else-has}
 
