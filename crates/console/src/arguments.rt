@@ -1,4 +1,5 @@
-// The words of the command line.
+// The words of the command line. They are asked by their place and not taken from an iterator, which would be no plainer: the
+// first is looked at before it is known what it is, and the last only if it is an option.
 ghost use Rattle.std.specs.Prelude.{◌≡◌, ◌<◌, is_ok, IfOk, IfErr, IsOkUnless, length, string_bytes, Decides, nat_le, nat_lt, HoldsAt};
 ghost use Rattle.console.specs.Words.{AsksHelp, IsSurplus};
 
