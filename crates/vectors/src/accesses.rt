@@ -184,7 +184,6 @@ const SW_ROWS: [Store; 22] = [
 
 // Runs the loads of one width from their data.
 fn run_loads(
-    rt: &HostRuntime,
     suite: &mut Suite,
     (name, fixed): (&str, u32),
     data: &[u32],
@@ -197,14 +196,13 @@ fn run_loads(
         let result = suite
             .machine
             .result_of(&[load_word(fixed, 14, 2, offset)], 14);
-        suite.check(rt, name, row, result, expected)?;
+        suite.check(name, row, result, expected)?;
     }
-    suite.tally.count(rt, name, rows.len())
+    suite.count(name, rows.len())
 }
 
 // Runs the stores of one width over words that all hold the same, and a load after each.
 fn run_stores(
-    rt: &HostRuntime,
     suite: &mut Suite,
     (name, fixed): (&str, u32),
     filling: u32,
@@ -220,18 +218,18 @@ fn run_stores(
             load_word(load, 14, 2, offset),
         ];
         let result = suite.machine.result_of(&words, 14);
-        suite.check(rt, name, row, result, expected)?;
+        suite.check(name, row, result, expected)?;
     }
-    suite.tally.count(rt, name, rows.len())
+    suite.count(name, rows.len())
 }
 
-pub fn run_accesses(rt: &HostRuntime, suite: &mut Suite) -> io::Result<()> {
-    run_loads(rt, suite, ("lb", LB), &BYTES, &LB_ROWS)?;
-    run_loads(rt, suite, ("lbu", LBU), &BYTES, &LBU_ROWS)?;
-    run_loads(rt, suite, ("lh", LH), &HALVES, &LH_ROWS)?;
-    run_loads(rt, suite, ("lhu", LHU), &HALVES, &LHU_ROWS)?;
-    run_loads(rt, suite, ("lw", LW), &WORDS, &LW_ROWS)?;
-    run_stores(rt, suite, ("sb", SB), 0xefef_efef, &SB_ROWS)?;
-    run_stores(rt, suite, ("sh", SH), 0xbeef_beef, &SH_ROWS)?;
-    run_stores(rt, suite, ("sw", SW), 0xdead_beef, &SW_ROWS)
+pub fn run_accesses(suite: &mut Suite) -> io::Result<()> {
+    run_loads(suite, ("lb", LB), &BYTES, &LB_ROWS)?;
+    run_loads(suite, ("lbu", LBU), &BYTES, &LBU_ROWS)?;
+    run_loads(suite, ("lh", LH), &HALVES, &LH_ROWS)?;
+    run_loads(suite, ("lhu", LHU), &HALVES, &LHU_ROWS)?;
+    run_loads(suite, ("lw", LW), &WORDS, &LW_ROWS)?;
+    run_stores(suite, ("sb", SB), 0xefef_efef, &SB_ROWS)?;
+    run_stores(suite, ("sh", SH), 0xbeef_beef, &SH_ROWS)?;
+    run_stores(suite, ("sw", SW), 0xdead_beef, &SW_ROWS)
 }

@@ -109,22 +109,22 @@ const STOPS: [Stop; 14] = [
     Stop(0x0020_a023, 0x1_0100, CODE, 7, 31), // sw x2, 0(x1): page 16 is known, and has no W
 ];
 
-fn run_timed(rt: &HostRuntime, suite: &mut Suite) -> io::Result<()> {
+fn run_timed(suite: &mut Suite) -> io::Result<()> {
     for (row, case) in TIMED.iter().enumerate() {
         suite.machine.restart();
         suite.machine.put_code(&case.words);
         for cycles in case.cycles {
             let cost = suite.machine.step();
-            suite.check(rt, "cycles", row, Some(cost), cycles)?;
+            suite.check("cycles", row, Some(cost), cycles)?;
         }
         let value = suite.machine.get(case.register);
-        suite.check(rt, "cycles", row, Some(value), case.expected)?;
+        suite.check("cycles", row, Some(value), case.expected)?;
     }
-    suite.tally.count(rt, "cycles", TIMED.len())
+    suite.count("cycles", TIMED.len())
 }
 
 // A stop leaves the counter and the registers as they are, and each step after it takes one cycle.
-fn run_stops(rt: &HostRuntime, suite: &mut Suite) -> io::Result<()> {
+fn run_stops(suite: &mut Suite) -> io::Result<()> {
     for (row, Stop(word, base, pc, cause, cycles)) in STOPS.into_iter().enumerate() {
         suite.machine.restart();
         suite.machine.put_code(&[word]);
@@ -135,16 +135,16 @@ fn run_stops(rt: &HostRuntime, suite: &mut Suite) -> io::Result<()> {
         let told = suite.machine.cause();
         let there = suite.machine.pc();
         let written = suite.machine.get(2) | suite.machine.get(4);
-        suite.check(rt, "stops", row, told, cause)?;
-        suite.check(rt, "stops", row, Some(first), cycles)?;
-        suite.check(rt, "stops", row, Some(second), 1)?;
-        suite.check(rt, "stops", row, Some(there), pc)?;
-        suite.check(rt, "stops", row, Some(written), 0)?;
+        suite.check("stops", row, told, cause)?;
+        suite.check("stops", row, Some(first), cycles)?;
+        suite.check("stops", row, Some(second), 1)?;
+        suite.check("stops", row, Some(there), pc)?;
+        suite.check("stops", row, Some(written), 0)?;
     }
-    suite.tally.count(rt, "stops", STOPS.len())
+    suite.count("stops", STOPS.len())
 }
 
-pub fn run_cases(rt: &HostRuntime, suite: &mut Suite) -> io::Result<()> {
-    run_timed(rt, suite)?;
-    run_stops(rt, suite)
+pub fn run_cases(suite: &mut Suite) -> io::Result<()> {
+    run_timed(suite)?;
+    run_stops(suite)
 }

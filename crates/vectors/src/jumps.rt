@@ -86,34 +86,34 @@ fn link(register: u32) -> u32 {
     if register == 0 { 0 } else { CODE + 4 }
 }
 
-fn run_jal(rt: &HostRuntime, suite: &mut Suite) -> io::Result<()> {
+fn run_jal(suite: &mut Suite) -> io::Result<()> {
     for (row, Jal(target, offset)) in JAL_ROWS.into_iter().enumerate() {
         suite.machine.restart();
         let result = suite.machine.result_of(&[jal_word(target, offset)], target);
-        suite.check(rt, "jal", row, result, link(target))?;
+        suite.check("jal", row, result, link(target))?;
         let pc = suite.machine.pc();
-        suite.check(rt, "jal", row, Some(pc), CODE.wrapping_add_signed(offset))?;
+        suite.check("jal", row, Some(pc), CODE.wrapping_add_signed(offset))?;
     }
-    suite.tally.count(rt, "jal", JAL_ROWS.len())
+    suite.count("jal", JAL_ROWS.len())
 }
 
-fn run_jalr(rt: &HostRuntime, suite: &mut Suite) -> io::Result<()> {
+fn run_jalr(suite: &mut Suite) -> io::Result<()> {
     for (row, Jalr(target, base, value, offset, to)) in JALR_ROWS.into_iter().enumerate() {
         suite.machine.restart();
         suite.machine.set(base, value);
         let result = suite
             .machine
             .result_of(&[jalr_word(target, base, offset)], target);
-        suite.check(rt, "jalr", row, result, link(target))?;
+        suite.check("jalr", row, result, link(target))?;
         let pc = suite.machine.pc();
-        suite.check(rt, "jalr", row, Some(pc), to)?;
+        suite.check("jalr", row, Some(pc), to)?;
     }
-    suite.tally.count(rt, "jalr", JALR_ROWS.len())
+    suite.count("jalr", JALR_ROWS.len())
 }
 
-pub fn run_jumps(rt: &HostRuntime, suite: &mut Suite) -> io::Result<()> {
-    run_jal(rt, suite)?;
-    run_jalr(rt, suite)?;
+pub fn run_jumps(suite: &mut Suite) -> io::Result<()> {
+    run_jal(suite)?;
+    run_jalr(suite)?;
     for (row, program) in PROGRAMS.iter().enumerate() {
         suite.machine.restart();
         suite.machine.set(6, program.x6);
@@ -121,7 +121,7 @@ pub fn run_jumps(rt: &HostRuntime, suite: &mut Suite) -> io::Result<()> {
             .machine
             .run_for(&program.words, program.instructions)
             .map(|()| suite.machine.get(program.register));
-        suite.check(rt, "after a jump", row, result, program.expected)?;
+        suite.check("after a jump", row, result, program.expected)?;
     }
-    suite.tally.count(rt, "after a jump", PROGRAMS.len())
+    suite.count("after a jump", PROGRAMS.len())
 }

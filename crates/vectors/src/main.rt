@@ -16,22 +16,22 @@ use std::io;
 use suite::Suite;
 
 // Runs the rows of an operation.
-fn run_rows(rt: &HostRuntime, suite: &mut Suite, operation: &Operation) -> io::Result<()> {
+fn run_rows(suite: &mut Suite, operation: &Operation) -> io::Result<()> {
     let name = operation.name;
     for (at, row) in operation.rows.iter().enumerate() {
         let given = outcome(&mut suite.machine, operation, *row);
-        suite.check(rt, name, at, given, row.1)?;
+        suite.check(name, at, given, row.1)?;
     }
-    suite.tally.count(rt, name, operation.rows.len())
+    suite.count(name, operation.rows.len())
 }
 
 fn main(rt: HostRuntime) -> anyhow::Result<()> {
-    let mut suite = Suite::new();
+    let mut suite = Suite::new(&rt);
     for operation in &OPERATIONS {
-        run_rows(&rt, &mut suite, operation)?;
+        run_rows(&mut suite, operation)?;
     }
-    run_accesses(&rt, &mut suite)?;
-    run_jumps(&rt, &mut suite)?;
-    run_cases(&rt, &mut suite)?;
-    suite.tally.close(&rt)
+    run_accesses(&mut suite)?;
+    run_jumps(&mut suite)?;
+    run_cases(&mut suite)?;
+    suite.close()
 }

@@ -4,14 +4,16 @@ use rv32ui::tally::Tally;
 use std::io;
 
 #[derive(Drop)]
-pub struct Suite {
+pub struct Suite<'a> {
+    rt: &'a HostRuntime,
     pub machine: Machine,
-    pub tally: Tally,
+    tally: Tally,
 }
 
-impl Suite {
-    pub fn new() -> Suite {
+impl<'a> Suite<'a> {
+    pub fn new(rt: &'a HostRuntime) -> Suite<'a> {
         Suite {
+            rt,
             machine: Machine::new(),
             tally: Tally::default(),
         }
@@ -20,7 +22,6 @@ impl Suite {
     // Counts and prints a result that is not the expected one; none where the program stopped.
     pub fn check(
         &mut self,
-        rt: &HostRuntime,
         name: &str,
         row: usize,
         given: Option<u32>,
@@ -30,10 +31,20 @@ impl Suite {
             return Ok(());
         }
         match given {
-            Some(value) => println!(rt;
+            Some(value) => println!(self.rt;
                 "FAILED {name}, row {row}: {value:08x}, expected {expected:08x}"
             ),
-            None => println!(rt; "FAILED {name}, row {row}: stopped, expected {expected:08x}"),
+            None => println!(self.rt; "FAILED {name}, row {row}: stopped, expected {expected:08x}"),
         }
+    }
+
+    // Prints and counts the rows of a name.
+    pub fn count(&mut self, name: &str, rows: usize) -> io::Result<()> {
+        self.tally.count(self.rt, name, rows)
+    }
+
+    // Prints the counts; an error where a vector failed.
+    pub fn close(&self) -> anyhow::Result<()> {
+        self.tally.close(self.rt)
     }
 }
