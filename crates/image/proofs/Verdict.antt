@@ -39,3 +39,7 @@ module _ (bytes image : List ℕ) where
   pub verdict : Admits bytes image (admitted bytes image)
   unfolding admitted
   verdict = at_plan (parsed bytes) refl (judged bytes)
+
+  -- what answers as the definition does has the verdict
+  pub verdict_as : (r : Result Plan Refusal) → r ≡ admitted bytes image → Admits bytes image r
+  verdict_as r e = rw e verdict

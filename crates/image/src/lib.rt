@@ -28,26 +28,23 @@ pub fn lent(image: &[u8]) -> usize
     ensures { result ≡ lent_frames image.now }
 {
     let whole = image.len().saturating_sub(HEADER) / FRAME;
-    whole.min(u16_at(image, 0) as usize)
+    whole.min(usize::from(u16_at(image, 0)))
 }
 
 // The words of the lent frames.
 pub fn load(heap: Global, image: &[u8]) -> Result<Vec<u32>, AllocError>
     ensures { IfOk result (λ v. v.items ≡ image_words image.now) }
 {
-    let count = lent(image) * FRAME_WORDS;
-    let mut words = Vec::with_capacity(heap, count)?;
-    for k in 0..count {
-        words.push(u32_at(image, HEADER + 4 * k))?;
-    }
-    Ok(words)
+    (0..lent(image) * FRAME_WORDS)
+        .map(|k| u32_at(image, HEADER + 4 * k))
+        .collect(heap)
 }
 
 // Whether the image has as many bytes as it counts frames, no fewer and no more.
 pub fn check(image: &[u8]) -> Result<(), Refusal>
     ensures { result ≡ unless (image_fault image.now) tt }
 {
-    let size = HEADER + FRAME * u16_at(image, 0) as usize;
+    let size = HEADER + FRAME * usize::from(u16_at(image, 0));
     if image.len() < size {
         return Err(Refusal::FramesMissing);
     }
@@ -58,15 +55,10 @@ pub fn check(image: &[u8]) -> Result<(), Refusal>
 }
 
 // The plan that the bytes say, or the first rule that they break, and after those the image's own.
+#[tactic(auto, unfolding(crate::specs::Frames::admitted), using(crate::proofs::Verdict::verdict_as))]
 pub fn admit(plan: &[u8], image: &[u8]) -> Result<Plan, Refusal>
     ensures value { result ≡ admitted plan.now image.now }
     ensures verdict { Admits plan.now image.now result }
-{
-    both(plan, image)
-}
-
-fn both(plan: &[u8], image: &[u8]) -> Result<Plan, Refusal>
-    ensures { result ≡ admitted plan.now image.now }
 {
     let plan = parse(plan)?;
     check(image)?;

@@ -1,34 +1,34 @@
+// Sizes and words of images, by example.
 use crate::{check as check_image, lent, load};
 use plan::refusal::Refusal;
 use std::test::Fail;
 
-fn verdict(checked: Result<(), Refusal>) -> (u8, usize) {
-    match checked {
-        Ok(()) => (0, 0),
-        Err(refusal) => (refusal.number(), refusal.place()),
-    }
+// Number and place of the refusal, none where the image is accepted.
+fn verdict(checked: Result<(), Refusal>) -> Option<(u8, usize)> {
+    let refusal = checked.err()?;
+    Some((refusal.number(), refusal.place()))
 }
 
 #[test]
 fn sizes(rt: HostRuntime) -> Result<(), Fail> {
-    // bytes, frames counted, number, place, frames lent
-    for (size, count, number, place, frames) in [
-        (0usize, 0u8, 11u8, 0usize, 0usize),
-        (1, 0, 11, 0, 0),
-        (2, 0, 0, 0, 0),
-        (3, 0, 12, 2, 0),
-        (2, 1, 11, 0, 0),
-        (4097, 1, 11, 0, 0),
-        (4098, 1, 0, 0, 1),
-        (4099, 1, 12, 4098, 1),
-        (8193, 2, 11, 0, 1),
-        (8194, 1, 12, 4098, 1),
+    // bytes, frames counted, number and place of the refusal, frames lent
+    for (size, count, expected, frames) in [
+        (0usize, 0u8, Some((11u8, 0usize)), 0usize),
+        (1, 0, Some((11, 0)), 0),
+        (2, 0, None, 0),
+        (3, 0, Some((12, 2)), 0),
+        (2, 1, Some((11, 0)), 0),
+        (4097, 1, Some((11, 0)), 0),
+        (4098, 1, None, 1),
+        (4099, 1, Some((12, 4098)), 1),
+        (8193, 2, Some((11, 0)), 1),
+        (8194, 1, Some((12, 4098)), 1),
     ] {
         let mut image = vec![in rt.alloc(); 0u8; size]?;
         if let Some(first) = image.get_mut(0) {
             *first = count;
         }
-        assert_eq!(rt; verdict(check_image(&image)), (number, place));
+        assert_eq!(rt; verdict(check_image(&image)), expected);
         assert_eq!(rt; lent(&image), frames);
     }
     Ok(())

@@ -38,14 +38,12 @@ module _ {X : Type 0} (at : ℕ → X) (blank : X) (room : ℕ) where
   pub rows_all : (xs : List X) (i many : ℕ) → xs ≡ rows at blank room i → i ≡ min room many → xs ≡ rows at blank room many
   rows_all xs i many e h = e ∙ (rw h (all many))
 
--- rows that agree below their room are the same
 -- rows that agree below their room and their count are the same
 pub rows_below : {X : Type 0} (at also : ℕ → X) (blank : X) (room many : ℕ) → ((k : ℕ) → k < room → k < many → at k ≡ also k) → rows at blank room many ≡ rows also blank room many
 rows_below at also blank room many h =
     same_rows also blank room (rows at blank room many) many (length_rows at blank room many)
     (λ k l. rows_at at blank room many k l ∙ (elim (cases_lt k many) [ inl below ↦ ap (λ x. cond (ltb k many) x blank) (h k l below) | inr past ↦ (let e = le-ltb k many past in rw e) ]))
 
+-- rows that agree below their room are the same
 pub rows_same : {X : Type 0} (at also : ℕ → X) (blank : X) (room many : ℕ) → ((k : ℕ) → k < room → at k ≡ also k) → rows at blank room many ≡ rows also blank room many
-rows_same at also blank room many h =
-    same_rows also blank room (rows at blank room many) many (length_rows at blank room many)
-    (λ k l. rows_at at blank room many k l ∙ ap (λ x. cond (ltb k many) x blank) (h k l))
+rows_same at also blank room many h = rows_below at also blank room many (λ k l _. h k l)

@@ -1,3 +1,4 @@
+-- The example plan, worked out.
 use Rattle.std.proofs.Common.{refl}
 use Rattle.words.specs.First.{first, count, most}
 use Rattle.plan.specs.Format.{plan_of, rows}

@@ -143,6 +143,7 @@ impl Row for Channel {
 
 impl Plan {
     // The plan that the bytes say, whether or not it keeps the rules.
+    #[tactic(auto, unfolding(crate::specs::Format::plan_of))]
     pub fn read(bytes: &[u8]) -> Plan
         ensures { result ≡ plan_of bytes.now }
     {

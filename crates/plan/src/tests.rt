@@ -1,3 +1,4 @@
+// The parser at the edges of each rule, and turns, by example.
 use crate::model::Plan;
 use crate::rules::parse;
 use crate::timetable::Turn;
@@ -148,38 +149,14 @@ fn turns_end_before_they_wrap(rt: HostRuntime) -> Result<(), Fail> {
     assert_eq!(rt; (second.number, second.begin), (1, 128 + 1754));
     assert_eq!(rt; second.slot(&plan).partition, 1);
     let latest = u64::MAX - (128 + 1754);
-    assert!(rt;
-        Turn {
-            number: 0,
-            begin: latest,
-        }
-        .next(&plan)
-        .is_some()
-    );
-    assert!(rt;
-        Turn {
-            number: 0,
-            begin: latest + 1,
-        }
-        .next(&plan)
-        .is_none()
-    );
-    assert!(rt;
-        Turn {
-            number: u32::MAX - 1,
-            begin: 0,
-        }
-        .next(&plan)
-        .is_some()
-    );
-    assert!(rt;
-        Turn {
-            number: u32::MAX,
-            begin: 0,
-        }
-        .next(&plan)
-        .is_none()
-    );
+    for (number, begin, comes) in [
+        (0, latest, true),
+        (0, latest + 1, false),
+        (u32::MAX - 1, 0, true),
+        (u32::MAX, 0, false),
+    ] {
+        assert_eq!(rt; Turn { number, begin }.next(&plan).is_some(), comes);
+    }
     Ok(())
 }
 
