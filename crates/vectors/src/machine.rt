@@ -103,7 +103,10 @@ impl Runner for Machine {
     }
 
     fn set(&mut self, register: u32, value: u32) {
-        self.core.context.registers.write(Register::new(register), value);
+        self.core
+            .context
+            .registers
+            .write(Register::new(register), value);
     }
 
     fn get(&self, register: u32) -> u32 {
