@@ -58,10 +58,10 @@ POINTS = {
     "6 buffers, parallel arrays, lists searched by hand": [
         ("a Vec behind a reference", r"&Vec<", "src"),
         ("an array with a count beside it", r"^    pub (partitions|slots|channels|ends): \[", "src"),
-        ("a place in a list of words by hand", r"options \+ 1|\(usize|, usize\), Problem", "src"),
+        ("a place in a list of words by hand", r"options \+ 1|\(u32, usize\)", "src"),
     ],
     "7 a switch on the step to run": [
-        ("a switch", r"match form|form: Form", "src"),
+        ("a switch", r"match form|form: Form\b(?!::)", "src"),
     ],
     "8 proofs": [
         ("an answer that only searches", r"= search rules$", "proofs"),

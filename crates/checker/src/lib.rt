@@ -20,7 +20,7 @@ use crate::tables::check_tables;
 use plan::model::{MOST_CHANNELS, Plan};
 use plan::refusal::Refusal;
 
-// An accepted plan, and the two frames that each of its channels joins.
+// An accepted plan, and the two frames that each of its channels joins. They stand beside the channels, since a plan is what its bytes say.
 #[derive(Clone, Copy)]
 pub struct Accepted {
     pub plan: Plan,

@@ -31,6 +31,7 @@ fn all_named(words: &[u32], plan: &Plan) -> Marks
     ensures { Joined (named_at words.now plan.now) result plan.now.counts.partitions }
 {
     let mut named = Marks::NONE;
+    // a loop for the same reason
     for who in 0..plan.counts.partitions {
         named.add(&Claims::of(words, root(plan, who)).named);
     }

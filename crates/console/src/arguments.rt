@@ -21,7 +21,7 @@ pub fn argument<'a>(words: &'a [String], at: usize, name: &'static str) -> Resul
     word.ok_or(Problem::MissingArgument(name))
 }
 
-// Refuses the first word past so many.
+// Refuses the first word past so many. By a match, since the word is copied, and a copy may fail.
 pub fn at_most(words: &[String], count: usize) -> Result<(), Problem>
     ensures verdict { is_ok result ≡ nat_le (length words.now) count }
     ensures surplus { IfErr result (IsSurplus words.now count) }

@@ -16,6 +16,7 @@ pub enum Cause {
 }
 
 impl Cause {
+    // The number under which the cause is printed.
     pub fn number(self) -> u8
         ensures { result ≡ cause_number self }
     {

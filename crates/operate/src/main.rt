@@ -49,10 +49,10 @@ fn operate(rt: &HostRuntime) -> Result<(), Problem> {
 }
 
 fn print_last(rt: &HostRuntime, last: Option<Report>) -> io::Result<()> {
-    match last {
-        Some(report) => println!(rt; "{report}"),
-        None => Ok(()),
+    if let Some(report) = last {
+        println!(rt; "{report}")?;
     }
+    Ok(())
 }
 
 fn print_slots(

@@ -7,6 +7,7 @@ use crate::access::Access;
 #[derive(Clone, Copy, PartialEq, Eq, Debug)]
 pub struct Leaf {
     pub frame: u32,
+    // the three permissions of the format, each by itself
     pub readable: bool,
     pub writable: bool,
     pub executable: bool,

@@ -60,6 +60,7 @@ fn each_bit_of_a_leaf(rt: HostRuntime) {
         next_frame,
         first_frame,
     ];
+    // by its number, of which the entry is made
     for bit in 0..32 {
         assert_eq!(rt;
             walk(&memory(POINTER, LEAF ^ (1 << bit)), 0, PAGE),
@@ -86,6 +87,7 @@ fn each_bit_of_a_pointer(rt: HostRuntime) {
         None,
         other_table,
     ];
+    // by its number, of which the entry is made
     for bit in 0..32 {
         let mut words = memory(POINTER ^ (1 << bit), LEAF);
         write(&mut words, 3, PAGE, 0x4D3);

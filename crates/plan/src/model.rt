@@ -41,6 +41,7 @@ pub struct Channel {
     pub receiver: Endpoint,
 }
 
+// Arrays with their counts beside them, and no `Vec`: nothing below the programs has a heap.
 #[derive(Clone, Copy)]
 pub struct Plan {
     pub counts: Counts,

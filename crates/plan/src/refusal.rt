@@ -40,7 +40,7 @@ pub enum Refusal {
 }
 
 impl Refusal {
-    // The number of the broken rule.
+    // The number of the broken rule, under which it is printed.
     pub fn number(self) -> u8
         ensures { result ≡ number_of self }
     {
@@ -60,7 +60,7 @@ impl Refusal {
         }
     }
 
-    // The place at which it is broken.
+    // The place at which it is broken, as it is printed.
     pub fn place(self) -> usize
         ensures { result ≡ place_of self }
     {

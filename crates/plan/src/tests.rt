@@ -81,6 +81,7 @@ fn each_rule_at_its_edges(rt: HostRuntime) {
 
 #[test]
 fn bytes_too_few_and_too_many(rt: HostRuntime) {
+    // every front of the plan, by its length
     for length in 0..39 {
         assert_eq!(rt; verdict(&PLAN[0..length]), Some((1, length)));
     }

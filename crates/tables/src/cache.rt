@@ -14,6 +14,7 @@ const LINE_BYTES: u32 = 64;
 #[derive(Clone, Copy, PartialEq, Eq, Debug)]
 pub struct Line {
     pub tag: u32,
+    // the line's own mark; whether there is a line, the `Option` says
     pub dirty: bool,
 }
 

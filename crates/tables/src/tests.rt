@@ -45,6 +45,7 @@ fn every_line_dirty(rt: HostRuntime) {
         (2, false, 0, 0),
         (1, false, 20, 0),
     ] {
+        // by its number, of which the place is made
         for line in 0..64 {
             assert_eq!(rt;
                 cache.access(
