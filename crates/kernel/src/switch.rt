@@ -10,17 +10,14 @@ use words::frames;
 fn ends_at(ends: &[Ends], k: u8) -> Ends
     ensures { result ≡ slice_index_or ends.now k no_ends }
 {
-    ends.get(usize::from(k)).copied().unwrap_or(Ends {
-        sender: 0,
-        receiver: 0,
-    })
+    ends.get(usize::from(k)).copied().unwrap_or_default()
 }
 
 #[tactic(auto, unfolding(crate::specs::Switch::carried))]
 fn carry(accepted: &Accepted, who: u8, k: u8, words: &mut [u32])
     ensures { words.new ≡ carried accepted.now who k words.old }
 {
-    if accepted.plan.channel(k as usize).sender.partition == who {
+    if accepted.plan.channel(usize::from(k)).sender.partition == who {
         let ends = ends_at(&accepted.ends, k);
         frames::copy(words, ends.sender, ends.receiver);
     }
