@@ -18,11 +18,11 @@ use Rattle.paging.specs.Walks.{walked}
 use Rattle.tables.specs.declared.Tables.{Tables}
 use Rattle.tables.specs.declared.tlb.Tlb.{Tlb}
 use Rattle.tables.specs.declared.tlb.TlbEntry.{TlbEntry}
-use Rattle.tables.specs.Cache.{access_cost, line_of}
+use Rattle.tables.specs.Cache.{line_of}
 use Rattle.tables.specs.Predictor.{branch_cost, is_right}
 use Rattle.tables.specs.Tlb.{entry_of, filled, filled_by, granted, known, put}
-use Rattle.tables.proofs.Lines.{access_costs, whole_accessed, whole_empty}
-use Rattle.tables.proofs.Truth.{carried_cost}
+use Rattle.tables.proofs.Lines.{whole_accessed, whole_empty}
+use Rattle.tables.proofs.Truth.{access_at_most, carried_cost}
 use Rattle.tables.proofs.Turns.{counters_stay}
 use Rattle.hart.specs.declared.cause.Cause.{Cause}
 use Rattle.hart.specs.declared.context.State.{State}
@@ -46,9 +46,6 @@ filled_by_length tlb page access None walk = put_length tlb page (granted access
 filled_length : (tlb : Tlb) (page : ℕ) (access : Access) (walk : Option Leaf) → length (filled tlb page access walk).entries ≡ length tlb.entries
 unfolding filled
 filled_length tlb page access walk = filled_by_length tlb page access (known tlb page) walk
-
-access_most : (t : Tables) (line : ℕ) → access_cost t.cache line ≤ miss + write_back
-access_most t line = elim (access_costs t.cache line) [ inl e ↦ omega (arith, e) | inr (inl e) ↦ omega (arith, e) | inr (inr e) ↦ omega (arith, e) ]
 
 -- no state is both
 apart : (s : State) (cause : Cause) (pc : ℕ) → s ≡ Ready → s ≡ Stopped cause pc → ⊥
@@ -85,7 +82,7 @@ module _ (x : Context) (t : Tables) (ws : List ℕ) (root : ℕ) where
           let line = line_of (place_in f.0 address) in
           rw (a, f.1) (record {
             as_many = refl;
-            most = omega (arith, lookup_most address Load, access_most after line);
+            most = omega (arith, lookup_most address Load, access_at_most after.cache line);
             way = inl refl;
             whole = λ w. let v = lookup_whole address Load w in record { cache = whole_accessed after.cache line false v.cache; tlb = v.tlb; predictor = v.predictor };
           })
@@ -103,7 +100,7 @@ module _ (x : Context) (t : Tables) (ws : List ℕ) (root : ℕ) where
           let line = line_of (place_in f.0 address) in
           rw (a, f.1) (record {
             as_many = length-set ws _ _;
-            most = omega (arith, lookup_most address Store, access_most after line);
+            most = omega (arith, lookup_most address Store, access_at_most after.cache line);
             way = inl refl;
             whole = λ w. let v = lookup_whole address Store w in record { cache = whole_accessed after.cache line true v.cache; tlb = v.tlb; predictor = v.predictor };
           })

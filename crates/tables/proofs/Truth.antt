@@ -125,7 +125,7 @@ honesty = record {
 find_at_most : (tlb : Tlb) (page : ℕ) (access : Access) (walk : Option Leaf) → (found tlb page access walk).cost ≤ 30
 find_at_most tlb page access walk = omega (arith, (look_ups tlb page access walk).cost, charged_at_most (is_some (known tlb page)) page_walk)
 
-access_at_most : (cache : Cache) (line : ℕ) → access_cost cache line ≤ 30
+pub access_at_most : (cache : Cache) (line : ℕ) → access_cost cache line ≤ 30
 access_at_most cache line = elim (access_costs cache line) [ inl e ↦ omega (arith, e) | inr (inl e) ↦ omega (arith, e) | inr (inr e) ↦ omega (arith, e) ]
 
 -- for what a look-up answers and leaves

@@ -1,4 +1,4 @@
-use Rattle.std.proofs.Common.{◌≡◌, ◌+◌, ◌*◌, ◌∙◌, cond, ltb, rules}
+use Rattle.std.proofs.Common.{◌+◌, ◌*◌, cond, ltb, rules}
 use Rattle.words.proofs.Chains.{array_from_calls}
 use Rattle.plan.specs.Format.{rows}
 use Rattle.plan.proofs.format.rows_in.Goals as goal

@@ -1,7 +1,6 @@
-use Rattle.std.proofs.Common.{◌≡◌, rules, arith}
+use Rattle.std.proofs.Common.{rules}
 use borrow.Author.Tests.{tests}
 use Rattle.words.proofs.Chains.{count_over_range}
-use Rattle.words.proofs.First.{count_at_most}
 use Rattle.plan.specs.Rules.{leaves}
 use Rattle.plan.proofs.model.Plan.channels_out.Goals as goal
 
