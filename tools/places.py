@@ -41,7 +41,7 @@ POINTS = {
         ("a table of one test twice", r"\(63u32, false, false\)", "src"),
     ],
     "3 loops that count an index": [
-        ("a count in a loop", r"for [a-z]\w* in 0\.\.|while \w+ < ", "src"),
+        ("a count in a loop", r"for [a-z]\w* in 0\.\.|while [\w.]+ < ", "src"),
         ("a count beside an iterator", r"^ +(at|k|i|j) = .*wrapping_add\(1\)|^ +(at|k|i|j|out|dirty) \+= 1", "src"),
     ],
     "4 equality, order, copying, conversion and printing by hand": [
@@ -54,6 +54,8 @@ POINTS = {
         ("a plan and its words", r"words: &\[u32\], plan: &Plan", "src"),
         ("256 marks", r"&(mut )?\[bool\]", "src"),
         ("words and a root", r"words: &\[u32\], root: u32", "src"),
+        ("words and a decoder", r"words: &mut \[u32\],\s+decoder: &mut|clock: u64,\s+decoder: &mut|length: u32,\s+decoder: &mut", "src"),
+        ("a bound on the cycles of a part", r"ensures (least|most) \{ (instruction ≤ result|result ≤ (highest|page_walk \+ miss \+ write_back)) \}", "src"),
     ],
     "6 buffers, parallel arrays, lists searched by hand": [
         ("a Vec behind a reference", r"&Vec<", "src"),

@@ -35,7 +35,7 @@ pub fn check(bytes: &[u8], words: &[u32]) -> Result<Accepted, Refusal>
     first_refusal(bytes, words)
 }
 
-// The plan and the words stay two parameters: with both in a struct, clauses say `self.entry.words.now` where they say `words.now`.
+// The words, and the plan or a root, stay two parameters: with both in a struct, clauses say `self.entry.words.now` where they say `words.now`.
 // Apart from `check`: in one function the verdict stayed open at eleven of its thirteen returns.
 #[tactic(auto, unfolding(crate::specs::Checked::checked, crate::specs::Checked::first_refusal))]
 fn first_refusal(bytes: &[u8], words: &[u32]) -> Result<Accepted, Refusal>

@@ -44,7 +44,7 @@ impl Marks {
     }
 
     // Marks the frames of the entries of a table that pass a test.
-    // Here and below a loop and no chain: a proof knows nothing of what a chain's closure changes.
+    // Here and below a loop and no chain: a proof knows nothing of what a chain's closure changes, and a fold would hand 256 marks on by value.
     fn mark_entries<F: Fn(Entry) -> bool>(&mut self, words: &[u32], table: u32, test: F)
         requires { F.IsAlwaysCallable test }
         ensures { (by : ℕ → Bool) → ((entry : Entry) (b : Bool) → F.post test entry b → b ≡ by entry.0) → Shows self.new (λ f. marked self.old f || any (passes by words.now table f) 1024) }

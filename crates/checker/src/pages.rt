@@ -1,5 +1,6 @@
 // The rule on the pages of channels: the sender may read its page, the receiver may read and not write its own,
 // and neither frame is behind a page of another channel.
+// Words and plan, or words and root, are two parameters, as lib.rt says.
 ghost use Rattle.std.specs.Prelude.{◌≡◌, cond, nat_lt};
 ghost use Rattle.plan.specs.Format.{rows};
 ghost use Rattle.words.specs.First.{any, first, unless};

@@ -1,4 +1,5 @@
 // The rules on the frames that partitions name: none is named by two, none is a kernel frame, and all are lent.
+// Words and plan, or words and root, are two parameters, as lib.rt says.
 ghost use Rattle.std.specs.Prelude.{◌≡◌};
 ghost use Rattle.words.specs.First.{any, first, unless};
 ghost use Rattle.checker.specs.Sharing.{Joined, lent_refusal, missing_mark, named_at, share_refusal};
@@ -15,7 +16,7 @@ use words::frames::is_lent;
 pub(crate) fn check_sharing(words: &[u32], plan: &Plan) -> Result<(), Refusal>
     ensures { result ≡ unless (first (share_refusal words.now plan.now) plan.now.counts.partitions) tt }
 {
-    // a loop and no chain: a proof knows nothing of what a chain's closure changes
+    // a loop and no chain, as for the marks
     let mut earlier = Claims::NONE;
     for k in 0..plan.counts.partitions {
         let own = Claims::of(words, root(plan, k));

@@ -1,4 +1,5 @@
 // The rule on the form of page tables: every valid entry of a root points to a table, and every valid entry of a table is a leaf.
+// Words and plan, or words and root, are two parameters, as lib.rt says.
 ghost use Rattle.std.specs.Prelude.{◌≡◌};
 ghost use Rattle.words.specs.First.{first, unless};
 ghost use Rattle.checker.specs.Tables.{Known, bad_leaf, bad_table, entry_fault, entry_fault_at, root_fault, table_fault, table_refusal};
@@ -65,7 +66,7 @@ fn check_entry(words: &[u32], root: u32, k: u32, known: &mut Marks) -> Result<()
     check_unless_known(words, entry.frame(), known)
 }
 
-// A loop and no chain: `known` grows from entry to entry, and a proof knows nothing of what a chain's closure changes.
+// A loop and no chain, as for the marks: `known` grows from entry to entry.
 fn check_entries(words: &[u32], root: u32) -> Result<(), Fault>
     ensures { result ≡ unless (first (entry_fault_at words.now root) 1024) tt }
 {

@@ -1,4 +1,4 @@
-// What the programs share: reading files within a bound, and the messages with which they end.
+// What the programs share: the words of a command line, the number of slots, files within a bound, messages and the status.
 #![tactic(auto)]
 
 pub mod arguments;

@@ -51,7 +51,8 @@ impl Problem {
 
 impl Program {
     // Says what went wrong, if anything did: a refusal on the standard output, alone, and any other problem on the standard
-    // error. A reader that went away is told nothing. A problem stays a problem, so the process ends with status 1.
+    // error. A reader that went away is told nothing. A problem stays a problem, so the process ends with status 1;
+    // there is nothing more to tell of it, hence `()`.
     pub fn ended(self, rt: &HostRuntime, outcome: Result<(), Problem>) -> Result<(), ()>
         ensures { is_ok result ≡ is_ok outcome }
     {

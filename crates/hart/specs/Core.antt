@@ -140,8 +140,8 @@ abbrev pub execution_of : Core → List ℕ → Instruction → Ran
 execution_of core ws i = on core executed ws (doing i core.context core.clock)
 
 -- a core with what was left of its context and its tables, and then with the clock moved on too, which has 64 bits
-abbrev pub after : Core → Ran → Core
-after core r = record core { context = r.context; tables = r.tables }
+abbrev pub with_ran : Core → Ran → Core
+with_ran core r = record core { context = r.context; tables = r.tables }
 
 abbrev pub later : Core → Ran → Core
 later core r = record core { context = r.context; tables = r.tables; clock = (core.clock + r.cost) % 2 ^ 64 }

@@ -16,7 +16,7 @@ pub enum Cause {
 }
 
 impl Cause {
-    // The number under which the cause is printed.
+    // The number of the cause: a number, since it is printed, and the enum is the cause itself.
     pub fn number(self) -> u8
         ensures { result ≡ cause_number self }
     {

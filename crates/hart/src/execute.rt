@@ -1,7 +1,7 @@
 // One instruction that was fetched and decoded. Each function answers the cycles beyond those of the fetch.
 ghost use Rattle.std.specs.Prelude.{◌≡◌, ◌+◌, ◌≤◌};
 ghost use Rattle.words.specs.Costs.{misprediction, miss, page_walk, write_back};
-ghost use Rattle.hart.specs.Core.{after, branch_extra, branched, execution_of, load_ran, on, store_ran};
+ghost use Rattle.hart.specs.Core.{branch_extra, branched, execution_of, load_ran, on, store_ran, with_ran};
 ghost use Rattle.hart.specs.Execution.{counter_value, offset_by};
 
 use crate::cause::Cause;
@@ -49,7 +49,7 @@ impl Core {
     fn load(&mut self, words: &[u32], width: LoadWidth, register: Register, address: u32) -> u32
         ensures cost { result ≡ (on self.old load_ran words.now width register address).cost }
         ensures most { result ≤ page_walk + miss + write_back }
-        ensures core { self.new ≡ after self.old (on self.old load_ran words.now width register address) }
+        ensures core { self.new ≡ with_ran self.old (on self.old load_ran words.now width register address) }
     {
         if address % memory::load_bytes(width) != 0 {
             self.context.stop(Cause::LoadMisaligned);
@@ -71,7 +71,7 @@ impl Core {
     fn store(&mut self, words: &mut [u32], width: StoreWidth, address: u32, value: u32) -> u32
         ensures cost { result ≡ (on self.old store_ran words.old width address value).cost }
         ensures most { result ≤ page_walk + miss + write_back }
-        ensures core { self.new ≡ after self.old (on self.old store_ran words.old width address value) }
+        ensures core { self.new ≡ with_ran self.old (on self.old store_ran words.old width address value) }
         ensures words { words.new ≡ (on self.old store_ran words.old width address value).words }
     {
         if address % memory::store_bytes(width) != 0 {
@@ -96,12 +96,12 @@ impl Core {
         found.cost + cost
     }
 
-    // What the instruction asks for, with what that costs.
+    // What the instruction asks for, with what that costs. One match over ten kinds, each arm a call: parts of it would be named by nothing.
     #[tactic(auto, using(crate::proofs::Ran::load_words), unfolding(crate::specs::Core::executed))]
     pub fn execute(&mut self, instruction: Instruction, words: &mut [u32]) -> u32
         ensures cost { result ≡ (execution_of self.old words.old instruction).cost }
         ensures most { result ≤ page_walk + miss + write_back }
-        ensures core { self.new ≡ after self.old (execution_of self.old words.old instruction) }
+        ensures core { self.new ≡ with_ran self.old (execution_of self.old words.old instruction) }
         ensures words { words.new ≡ (execution_of self.old words.old instruction).words }
     {
         match instruction {

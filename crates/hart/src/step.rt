@@ -1,7 +1,7 @@
 // A core with the program that it runs, and one step of it.
 ghost use Rattle.std.specs.Prelude.{◌≡◌, ◌+◌, ◌≤◌};
 ghost use Rattle.words.specs.Costs.{highest, instruction, miss, page_walk, write_back};
-ghost use Rattle.hart.specs.Core.{after, faulted, first_core, later, looked_up, on, step_of, word_ran};
+ghost use Rattle.hart.specs.Core.{faulted, first_core, later, looked_up, on, step_of, with_ran, word_ran};
 
 use crate::cause::Cause;
 use crate::context::{Context, State};
@@ -69,7 +69,7 @@ impl Core {
         ensures cost { result ≡ (step_of self.old words.old).cost }
         ensures least { instruction ≤ result }
         ensures most { result ≤ highest }
-        ensures core { self.new ≡ after self.old (step_of self.old words.old) }
+        ensures core { self.new ≡ with_ran self.old (step_of self.old words.old) }
         ensures words { words.new ≡ (step_of self.old words.old).words }
     {
         if let State::Stopped { .. } = self.context.state {
@@ -104,7 +104,7 @@ impl Core {
     fn run_word<D: Decode>(&mut self, word: u32, words: &mut [u32], decoder: &mut D) -> u32
         ensures cost { result ≡ (on self.old word_ran words.old self.old.clock word).cost }
         ensures most { result ≤ page_walk + miss + write_back }
-        ensures core { self.new ≡ after self.old (on self.old word_ran words.old self.old.clock word) }
+        ensures core { self.new ≡ with_ran self.old (on self.old word_ran words.old self.old.clock word) }
         ensures words { words.new ≡ (on self.old word_ran words.old self.old.clock word).words }
     {
         // programs with one root after the other have other places for the same addresses

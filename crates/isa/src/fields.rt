@@ -5,6 +5,7 @@ ghost use Rattle.isa.specs.Formats.{b_immediate, funct3, funct7, i_immediate, j_
 use crate::register::Register;
 use words::bits::{bits, sign_extended};
 
+// Each field has a function by its name in the manual. What they share is `bits` and `Register::new`.
 pub(crate) fn opcode(word: u32) -> u32
     ensures { result ≡ opcode word }
 {

@@ -2,20 +2,10 @@
 ghost use Rattle.isa.specs.Tables.{ReadAs, ReadsOperation, condition_number, conditions, counter_number, counters, load_number, loads, store_number, stores};
 
 use crate::instruction::{Condition, Counter, LoadWidth, Operation, StoreWidth};
-use std::error::Error;
-use std::fmt;
 
 // A number that its table doesn't have, or a word that has one and so is no instruction.
 #[derive(Clone, Copy, PartialEq, Eq, Debug)]
 pub struct Illegal;
-
-impl fmt::Display for Illegal {
-    fn fmt<W: fmt::Write>(&self, f: &mut fmt::Formatter<W>) -> fmt::Result {
-        f.write_str("illegal instruction")
-    }
-}
-
-impl Error for Illegal {}
 
 // By funct3.
 impl TryFrom<u32> for Condition {

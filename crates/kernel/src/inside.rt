@@ -6,7 +6,7 @@ use hart::step::Core;
 use isa::decoder::Decoder;
 
 // Runs the program on a core for a slot's length, and answers how many instructions it began.
-// None begins when the slot has ended; a stopped program waits for its end.
+// None begins when the slot has ended; a stopped program waits for its end. A loop by the clock, which no range or iterator counts.
 pub(crate) fn run_until(
     core: &mut Core,
     words: &mut [u32],

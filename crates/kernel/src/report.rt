@@ -16,7 +16,7 @@ pub struct Report {
     pub state: State,
 }
 
-// One line: clocks and counts in decimal, addresses in eight hexadecimal digits.
+// One line: clocks and counts in decimal, addresses in eight hexadecimal digits. By hand, since it has two forms.
 impl fmt::Display for Report {
     fn fmt<W: fmt::Write>(&self, f: &mut fmt::Formatter<W>) -> fmt::Result {
         write!(f, "slot {} partition {} ", self.slot, self.partition)?;

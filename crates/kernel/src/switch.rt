@@ -23,7 +23,8 @@ fn carry(accepted: &Accepted, who: u8, k: u8, words: &mut [u32])
     }
 }
 
-// Carries the messages out of the partition that ran, in the plan's order. By number, since a channel and its ends stand in two arrays.
+// Carries the messages out of the partition that ran, in the plan's order.
+// By number and not by a `zip`: a plan that nobody accepted may count more channels than there are, and past them each is blank.
 #[tactic(auto, unfolding(crate::specs::Switch::delivered))]
 pub fn deliver(accepted: &Accepted, who: u8, words: &mut [u32])
     ensures { words.new ≡ delivered accepted.now who accepted.now.plan.counts.channels words.old }

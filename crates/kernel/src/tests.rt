@@ -4,7 +4,7 @@ use crate::switch::deliver;
 use checker::Accepted;
 use checker::pages::Ends;
 use isa::decoder::Decoder;
-use plan::model::{Channel, Counts, Endpoint, Partition, Plan, Slot};
+use plan::model::{MOST_CHANNELS, Channel, Counts, Endpoint, Partition, Plan, Slot};
 use std::test::Fail;
 use words::frames::{read, write};
 
@@ -44,7 +44,7 @@ fn accepted(partition: u8) -> Accepted {
         ends: [Ends {
             sender: 3,
             receiver: 4,
-        }; 16],
+        }; MOST_CHANNELS],
     }
 }
 

@@ -40,7 +40,7 @@ pub enum Refusal {
 }
 
 impl Refusal {
-    // The number of the broken rule, under which it is printed.
+    // The number of the broken rule: a number, since it is printed, and the enum is the refusal itself.
     pub fn number(self) -> u8
         ensures { result ≡ number_of self }
     {
@@ -60,7 +60,7 @@ impl Refusal {
         }
     }
 
-    // The place at which it is broken, as it is printed.
+    // The place at which it is broken, a number for the same reason.
     pub fn place(self) -> usize
         ensures { result ≡ place_of self }
     {
@@ -83,6 +83,7 @@ impl Refusal {
     }
 }
 
+// By hand, since a contract says the text.
 impl fmt::Display for Refusal {
     ghost output = { λ e. Some (refusal_text e) };
 

@@ -36,7 +36,7 @@ impl Counts {
 }
 
 impl Plan {
-    // Partition k of the plan; blank past the last.
+    // Partition k of the plan; blank past the last. Three names for the three kinds of rows, each over the library's `get`.
     pub fn partition(&self, k: usize) -> Partition
         ensures { result ≡ partition self.now k }
     {
@@ -151,7 +151,7 @@ impl Plan {
         Ok(())
     }
 
-    // Whether the plan, read from these bytes, keeps every rule, asked in the order of their numbers.
+    // Whether the plan, read from these bytes, keeps every rule that needs no memory, asked in the order of their numbers.
     #[tactic(auto, unfolding(crate::specs::Rules::fault))]
     fn check(&self, bytes: &[u8]) -> Result<(), Refusal>
         ensures { result ≡ unless (fault bytes.now self.now) tt }

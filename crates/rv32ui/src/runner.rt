@@ -32,7 +32,7 @@ pub trait Runner {
     fn pc(&self) -> u32
         ensures { result ≡ counter self.now };
 
-    // Runs the words in their order, one instruction each; none where one is not run.
+    // Runs the words in their order, one instruction each; none where one is not run, of which there is nothing more to tell.
     fn run(&mut self, words: &[u32]) -> Option<()>
         ensures { runs self.old words.now result self.new };
 }

@@ -71,7 +71,7 @@ impl Tlb {
     }
 
     // Finds the frame of a page for an access, and walks the page tables of the root only where no entry has the page.
-    // Only a walk that ends in a leaf with the permission fills an entry.
+    // Only a walk that ends in a leaf with the permission fills an entry. Words and root as for `walk`.
     #[tactic(auto, using(crate::proofs::Truth::carried_cost), unfolding(crate::specs::Tlb::found, crate::specs::Tlb::filled))]
     pub fn find(&mut self, words: &[u32], root: u32, page: u32, access: Access) -> Lookup
         ensures answer { result ≡ found self.old page access (walked words.now root page) }

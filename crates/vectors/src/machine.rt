@@ -33,7 +33,7 @@ impl Machine {
         self.core.context.pc = pc;
     }
 
-    // The number of the cause, where the program stopped.
+    // The number of the cause, where the program stopped: it is what docs/MACHINE.md gives, and so what the cases test.
     pub fn cause(&self) -> Option<u32> {
         match self.core.context.state {
             State::Ready => None,

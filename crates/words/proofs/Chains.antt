@@ -109,12 +109,6 @@ most_over_range {g = g} {s = s} f n r source closure ran computes =
     let all = reduce_from_yields_List (λ p z. max_by_ordering (nat_cmp p z) p z) s r ran (YieldsList-from_map g f (YieldsList-from_range 0 n n source (omega arith)) closure computes) in
     ap (λ o. unwrap_or o 0) all ∙ max_of_map f (range_with_len 0 n) ∙ most_of_list f n
 
--- the same by `(0..n).fold(0, |most, k| g(k).max(most))`, as `fold_over_range (g) n refl c.fold.ensures.ran (λ a k b q z. search rules)`
-pub fold_over_range : {F : Type 0} {g : Mut F (ℕ × (ℕ × Unit {0})) ℕ} {p : F} {s : Range ℕ} {r : ℕ} (f : ℕ → ℕ) (n : ℕ) → s ≡ record { start = 0; end = n } →
-    ((xs : List ℕ) × (q : F) × Drains nat_range_steps s xs × FoldsTo {P = F × ℕ} (λ a x b. Called g a.0 (a.1, (x, tt)) b.1 b.0) (p, 0) xs (q, r)) →
-    ((a k b : ℕ) (q : F) → Called g p (a, (k, tt)) b q → (q ≡ p) × (b ≡ max a (f k))) → r ≡ most f n
-fold_over_range {g = g} {r = r} f n source ran computes = fold_from_yields_List g (λ a k. max a (f k)) 0 r ran (YieldsList-from_range 0 n n source (omega arith)) computes ∙ most_of_list f n
-
 -- `array::from_fn(g)`, as `array_from_calls (g) c.from_fn.ensures.items (λ k l v q z. search rules)`
 module _ {X F : Type 0} (g : Mut F (ℕ × Unit {0}) X) (f : F) (h : ℕ → X) (n : ℕ) (xs : List X)
     (computes : (k : ℕ) → k < n → (v : X) (q : F) → Called g f (k, tt) v q → (q ≡ f) × (v ≡ h k)) where
