@@ -1,4 +1,4 @@
-use Rattle.std.proofs.Common.{◌≡◌, ℕ, ◌/◌, ◌^◌, ◌<◌, ◌≤◌, ◌∙◌, ap, sym, Option, Some, None, arith, pow_mono}
+use Rattle.std.proofs.Common.{◌≡◌, ℕ, ◌/◌, ◌^◌, ◌<◌, ◌≤◌, ◌∙◌, sym, Option, Some, None, arith, pow_mono}
 use native.Mathlib.Nat.{div-eq_of_lt}
 use Rattle.std.specs.Option.{SomeIff, unwrap_or}
 use Rattle.words.proofs.bits.shifted.Goals as goal

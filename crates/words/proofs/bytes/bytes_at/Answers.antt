@@ -1,4 +1,4 @@
-use Rattle.std.proofs.Common.{◌≡◌, ℕ, ◌+◌, ◌-◌, ◌^◌, ◌∙◌, min, rules, arith}
+use Rattle.std.proofs.Common.{◌≡◌, ◌+◌, ◌-◌, ◌^◌, ◌∙◌, min, rules, arith}
 use Rattle.words.specs.Bytes.{byte}
 use Rattle.words.proofs.Chains.{array_from_calls}
 use Rattle.words.proofs.Numbers.{byte_below}
