@@ -4,7 +4,7 @@ use crate::switch::deliver;
 use checker::Accepted;
 use checker::pages::Ends;
 use isa::decoder::Decoder;
-use plan::model::{MOST_CHANNELS, Channel, Counts, Endpoint, Partition, Plan, Slot};
+use plan::model::{Channel, Counts, Endpoint, MOST_CHANNELS, Partition, Plan, Slot};
 use std::test::Fail;
 use words::frames::{read, write};
 
