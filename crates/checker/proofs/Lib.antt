@@ -1,6 +1,5 @@
 -- The lemmas of this crate.
 pub mod Marked
-pub mod Known
 pub mod Shares
 pub mod Forms
 pub mod Conflicts

@@ -7,4 +7,6 @@ pub mod row;
 mod rows;
 pub mod runner;
 pub mod tally;
+#[cfg(test)]
+mod tests;
 pub mod word;

@@ -5,7 +5,6 @@ use Rattle.paging.specs.declared.leaf.Leaf.{Leaf}
 use Rattle.paging.specs.Entries.{frame_of}
 use Rattle.paging.specs.Mapping.{InMemory, Maps}
 use Rattle.paging.specs.Tables.{Alike, KernelFrame, Names, Owns, SameTables}
-use Rattle.paging.specs.Walks.{walked}
 use Rattle.paging.proofs.Agree.{tables_decide}
 use Rattle.plan.specs.declared.model.Endpoint.{Endpoint}
 use Rattle.plan.specs.declared.model.Plan.{Plan}
@@ -85,9 +84,6 @@ module _ (p : Plan) (ws vs : List ℕ) (kept : Kept p ws vs) where
   module _ (q : ℕ) (l : q < p.counts.partitions) where
     same : SameTables ws vs (root p q)
     same = kept.tables q l
-
-    pub walks_kept : (page : ℕ) → walked vs (root p q) page ≡ walked ws (root p q) page
-    walks_kept = (tables_decide ws vs (root p q) same).walks (λ f o. kept_lent f)
 
     formed_kept : Formed ws (root p q) → Formed vs (root p q)
     formed_kept form = record {

@@ -44,10 +44,6 @@ module _ (p : Plan) (who : ℕ) (kn : who < p.counts.partitions) where
   r : ℕ
   r = root p who
 
-  -- only words of frames that the partition names change
-  abbrev Others : List ℕ → List ℕ → Type 0
-  Others ws vs = (f k : ℕ) → (Names ws (root p who) f → ⊥) → k < 1024 → word vs f k ≡ word ws f k
-
   pub record Good (x : Inside) : Type 0 where
     pub sound : SoundFrames p x.words
     pub honest : Honest x.tables.tlb x.words (root p who)
