@@ -5,8 +5,8 @@ use Rattle.tables.proofs.tlb.Tlb.find.Goals as goal
 
 pub returns-in-Some-clause-honest : goal.returns-in-Some-clause-honest
 unfolding found filled
-returns-in-Some-clause-honest c = carried c.args.self.now _ c.args.words.now c.args.root c.args.page c.args.access c.new.result (search rules) (search rules)
+returns-in-Some-clause-honest c = carried c.args.self.now _ c.args.words.now c.args.root c.args.page c.args.access _ (search rules) (search rules)
 
-pub returns-clause-honest : goal.returns-clause-honest
+pub returns-in_default-clause-honest : goal.returns-in_default-clause-honest
 unfolding found filled
-returns-clause-honest c = carried c.args.self.now _ c.args.words.now c.args.root c.args.page c.args.access c.new-2.result (search rules) (search rules)
+returns-in_default-clause-honest c = carried c.args.self.now _ c.args.words.now c.args.root c.args.page c.args.access _ (search rules) (search rules)
