@@ -63,8 +63,9 @@ impl Context {
     pub fn set(&mut self, register: Register, value: u32)
         ensures { self.new ≡ register_set self.old register value }
     {
+        let next = self.next();
         self.registers.write(register, value);
-        self.pc = self.next();
+        self.pc = next;
     }
 
     // Goes on at the target and leaves the address of the next instruction in a register, or stops at a target that is misaligned.

@@ -13,7 +13,7 @@ use tables::tlb::Lookup;
 use words::costs::INSTRUCTION;
 use words::frames;
 
-// What parts the places of one program from those of the next.
+// What parts the places of one frame from those of the next.
 const APART: u32 = 1092;
 
 // A program on the core: its context, the core's tables, the frame of its root page table, and the clock.
@@ -82,7 +82,9 @@ impl Core {
             return cost;
         };
         let word = frames::read(words, frame, pc % PAGE_BYTES / 4);
-        cost + self.run_word(word, words, decoder)
+        // programs in different frames have different places for the same addresses
+        let number = pc.wrapping_add(frame.wrapping_mul(APART));
+        cost + self.run_word(word, number, words, decoder)
     }
 
     // Finds the frame that an address lies in. A program that has none there, or not for this access, stops.
@@ -99,16 +101,20 @@ impl Core {
         found
     }
 
-    // The instruction of a word that was fetched.
+    // The instruction of a word that was fetched. The number is for the decoder alone.
     #[tactic(auto, unfolding(crate::specs::Core::word_ran))]
-    fn run_word<D: Decode>(&mut self, word: u32, words: &mut [u32], decoder: &mut D) -> u32
+    fn run_word<D: Decode>(
+        &mut self,
+        word: u32,
+        number: u32,
+        words: &mut [u32],
+        decoder: &mut D,
+    ) -> u32
         ensures cost { result ≡ (on self.old word_ran words.old self.old.clock word).cost }
         ensures most { result ≤ page_walk + miss + write_back }
         ensures core { self.new ≡ with_ran self.old (on self.old word_ran words.old self.old.clock word) }
         ensures words { words.new ≡ (on self.old word_ran words.old self.old.clock word).words }
     {
-        // programs with one root after the other have other places for the same addresses
-        let number = self.context.pc.wrapping_add(self.root.wrapping_mul(APART));
         match decoder.instruction_of(number, word) {
             Some(instruction) => self.execute(instruction, words),
             None => {

@@ -1,7 +1,7 @@
 // The data cache: which lines of memory are at hand, and which of them are dirty. It holds no words; what is loaded and stored lies in the frames at all times.
 ghost use Rattle.std.specs.Prelude.{◌≡◌, ◌+◌, ◌≤◌};
 ghost use Rattle.words.specs.Costs.{cache_lines, miss, write_back};
-ghost use Rattle.tables.specs.Cache.{AtHand, access_cost, accessed, dirty_count, empty_cache, has_tag, is_dirty, line_of};
+ghost use Rattle.tables.specs.Cache.{AtHand, access_cost, accessed, dirty_count, empty_cache, is_dirty, line_of};
 
 use paging::translate::Place;
 use words::costs::{CACHE_LINES, MISS, WRITE_BACK};
@@ -29,12 +29,6 @@ fn is_dirty(line: Option<Line>) -> bool
     line.is_some_and(|line| line.dirty)
 }
 
-fn has_tag(line: Option<Line>, tag: u32) -> bool
-    ensures { result ≡ has_tag tag line }
-{
-    line.is_some_and(|line| line.tag == tag)
-}
-
 impl Cache {
     pub fn new() -> Self
         ensures { result ≡ empty_cache }
@@ -55,15 +49,22 @@ impl Cache {
         let at = (place.offset / LINE_BYTES) as usize % LINES;
         let tag = place.frame;
         let old = self.lines[at];
-        let (hit, dirty) = (has_tag(old, tag), is_dirty(old));
-        self.lines[at] = Some(Line {
-            tag,
-            dirty: if hit { dirty || store } else { store },
-        });
-        match (hit, dirty) {
-            (true, _) => 0,
-            (false, false) => MISS,
-            (false, true) => MISS + WRITE_BACK,
+        match old {
+            Some(line) if line.tag == tag => {
+                self.lines[at] = Some(Line {
+                    tag,
+                    dirty: line.dirty || store,
+                });
+                0
+            }
+            _ => {
+                self.lines[at] = Some(Line { tag, dirty: store });
+                if is_dirty(old) {
+                    MISS + WRITE_BACK
+                } else {
+                    MISS
+                }
+            }
         }
     }
 

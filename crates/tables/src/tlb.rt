@@ -33,12 +33,15 @@ pub struct Lookup {
     pub cost: u32,
 }
 
-// A leaf, if it permits the access. By `filter` the core is 3.6 percent slower: 11.8 in place of 11.4 ns an instruction.
-fn granted(access: Access, leaf: Option<Leaf>) -> Option<Leaf>
-    ensures { result ≡ granted access leaf }
+// The frame of a leaf that permits the access. By `then_some` a step takes five instructions more.
+fn frame_for(access: Access, leaf: Leaf) -> Option<u32>
+    ensures { result ≡ option_map (λ l. l.frame) (granted access (Some leaf)) }
 {
-    let leaf = leaf?;
-    leaf.permits(access).then_some(leaf)
+    if leaf.permits(access) {
+        Some(leaf.frame)
+    } else {
+        None
+    }
 }
 
 impl Tlb {
@@ -62,7 +65,7 @@ impl Tlb {
         let entry = self.entries[page as usize % ENTRIES];
         match entry {
             Some(entry) if entry.page == page => Lookup {
-                frame: entry.leaf.permits(access).then_some(entry.leaf.frame),
+                frame: frame_for(access, entry.leaf),
                 cost: 0,
             },
             _ => Lookup {
@@ -78,8 +81,9 @@ impl Tlb {
         ensures frame { result ≡ option_map (λ l. l.frame) (granted access (walked words.now root page)) }
         ensures after { self.new ≡ put self.old page (granted access (walked words.now root page)) }
     {
-        let leaf = granted(access, walk(words, root, page))?;
+        let leaf = walk(words, root, page)?;
+        let frame = frame_for(access, leaf)?;
         self.entries[page as usize % ENTRIES] = Some(TlbEntry { page, leaf });
-        Some(leaf.frame)
+        Some(frame)
     }
 }
