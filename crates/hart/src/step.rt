@@ -13,7 +13,7 @@ use tables::tlb::Lookup;
 use words::costs::INSTRUCTION;
 use words::frames;
 
-// What parts the places of one frame from those of the next.
+// What parts the places of one program from those of the next.
 const APART: u32 = 1092;
 
 // A program on the core: its context, the core's tables, the frame of its root page table, and the clock.
@@ -82,8 +82,8 @@ impl Core {
             return cost;
         };
         let word = frames::read(words, frame, pc % PAGE_BYTES / 4);
-        // programs in different frames have different places for the same addresses
-        let number = pc.wrapping_add(frame.wrapping_mul(APART));
+        // programs with one root after the other have other places for the same addresses
+        let number = pc.wrapping_add(self.root.wrapping_mul(APART));
         cost + self.run_word(word, number, words, decoder)
     }
 

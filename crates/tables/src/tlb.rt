@@ -33,17 +33,6 @@ pub struct Lookup {
     pub cost: u32,
 }
 
-// The frame of a leaf that permits the access. By `then_some` a step takes five instructions more.
-fn frame_for(access: Access, leaf: Leaf) -> Option<u32>
-    ensures { result ≡ option_map (λ l. l.frame) (granted access (Some leaf)) }
-{
-    if leaf.permits(access) {
-        Some(leaf.frame)
-    } else {
-        None
-    }
-}
-
 impl Tlb {
     pub fn new() -> Self
         ensures { result ≡ empty_tlb }
@@ -64,8 +53,12 @@ impl Tlb {
     {
         let entry = self.entries[page as usize % ENTRIES];
         match entry {
+            Some(entry) if entry.page == page && entry.leaf.permits(access) => Lookup {
+                frame: Some(entry.leaf.frame),
+                cost: 0,
+            },
             Some(entry) if entry.page == page => Lookup {
-                frame: frame_for(access, entry.leaf),
+                frame: None,
                 cost: 0,
             },
             _ => Lookup {
@@ -81,9 +74,8 @@ impl Tlb {
         ensures frame { result ≡ option_map (λ l. l.frame) (granted access (walked words.now root page)) }
         ensures after { self.new ≡ put self.old page (granted access (walked words.now root page)) }
     {
-        let leaf = walk(words, root, page)?;
-        let frame = frame_for(access, leaf)?;
+        let leaf = walk(words, root, page).filter(|leaf| leaf.permits(access))?;
         self.entries[page as usize % ENTRIES] = Some(TlbEntry { page, leaf });
-        Some(frame)
+        Some(leaf.frame)
     }
 }

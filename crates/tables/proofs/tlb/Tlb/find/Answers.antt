@@ -10,3 +10,7 @@ returns-in-Some-clause-honest c = carried c.args.self.now _ c.args.words.now c.a
 pub returns-in_default-clause-honest : goal.returns-in_default-clause-honest
 unfolding found filled
 returns-in_default-clause-honest c = carried c.args.self.now _ c.args.words.now c.args.root c.args.page c.args.access _ (search rules) (search rules)
+
+pub returns-in-Some-2-clause-honest : goal.returns-in-Some-2-clause-honest
+unfolding found filled
+returns-in-Some-2-clause-honest c = carried c.args.self.now _ c.args.words.now c.args.root c.args.page c.args.access _ (search rules) (search rules)
