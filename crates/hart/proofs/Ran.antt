@@ -1,13 +1,23 @@
--- What a load leaves.
-use Rattle.std.proofs.Common.{◌≡◌, ℕ, List, inl, inr}
+-- What a load leaves, and a step that costs less than a walk.
+use Rattle.std.proofs.Common.{◌≡◌, ℕ, ◌+◌, ◌/◌, ◌<◌, ◌≤◌, List, Some, None, Option, sym, refl, ap, ◌∙◌, inl, inr, arith}
 use Rattle.std.proofs.lemmas.Bool.{cases_Bool}
+use Rattle.words.specs.Costs.{page_walk}
 use Rattle.isa.specs.declared.register.Register.{Register}
+use Rattle.isa.specs.declared.instruction.Instruction.{Instruction}
 use Rattle.isa.specs.declared.instruction.LoadWidth.{LoadWidth}
-use Rattle.paging.specs.declared.access.Access.TheVariants.{Load}
+use Rattle.isa.specs.declared.instruction.StoreWidth.{StoreWidth}
+use Rattle.isa.specs.Decoding.{decoded}
+use Rattle.paging.specs.declared.access.Access.{Access}
+use Rattle.paging.specs.declared.access.Access.TheVariants.{Fetch, Load, Store}
+use Rattle.paging.specs.Walks.{walked}
 use Rattle.tables.specs.declared.Tables.{Tables}
+use Rattle.tables.specs.Tlb.{found, hit}
+use Rattle.tables.proofs.Truth.{cheap_look, known_hit}
 use Rattle.hart.specs.declared.context.Context.{Context}
-use Rattle.hart.specs.Memory.{is_aligned, load_bytes}
-use Rattle.hart.specs.Core.{load_ran, looked_up}
+use Rattle.hart.specs.declared.step.Core.{Core}
+use Rattle.hart.specs.Execution.{Doing, sets, jumps, branches, loads, stores, doing, misses_target}
+use Rattle.hart.specs.Memory.{is_aligned, load_bytes, store_bytes}
+use Rattle.hart.specs.Core.{after_lookup, decoded_ran, executed, faulted, load_found, load_ran, looked_up, run_from, store_found, store_ran, word_ran}
 use Rattle.hart.proofs.Agreeing.{found_or_not}
 
 -- a load changes no word
@@ -17,3 +27,66 @@ load_words x t ws root width rd address = elim (cases_Bool (is_aligned (load_byt
   | inl a ↦ elim (found_or_not (looked_up t ws root address Load).frame) [ inl f ↦ simp (a, f.1) | inr e ↦ simp (a, e) ]
   | inr a ↦ simp a
 ]
+
+-- what costs less than a walk walked nothing, and so left the TLB as it was
+module _ (x : Context) (t : Tables) (ws : List ℕ) (root : ℕ) where
+  cheap : (address : ℕ) (access : Access) → (looked_up t ws root address access).cost < page_walk → (after_lookup t ws root address access).tlb ≡ t.tlb
+  cheap address access = cheap_look t.tlb (address / 4096) access (walked ws root (address / 4096))
+
+  load_costs : (t' : Tables) (width : LoadWidth) (rd : Register) (address : ℕ) (o : Option ℕ) (cost : ℕ) →
+      (cost ≤ (load_found x t' ws width rd address o cost).cost) × ((load_found x t' ws width rd address o cost).tables.tlb ≡ t'.tlb)
+  load_costs t' width rd address None cost = (omega arith, refl)
+  load_costs t' width rd address (Some frame) cost = (omega arith, refl)
+
+  store_costs : (t' : Tables) (width : StoreWidth) (address value : ℕ) (o : Option ℕ) (cost : ℕ) →
+      (cost ≤ (store_found x t' ws width address value o cost).cost) × ((store_found x t' ws width address value o cost).tables.tlb ≡ t'.tlb)
+  store_costs t' width address value None cost = (omega arith, refl)
+  store_costs t' width address value (Some frame) cost = (omega arith, refl)
+
+  cheap_load : (width : LoadWidth) (rd : Register) (address : ℕ) →
+      (load_ran x t ws root width rd address).cost < page_walk → (load_ran x t ws root width rd address).tables.tlb ≡ t.tlb
+  unfolding load_ran
+  cheap_load width rd address l = elim (cases_Bool (is_aligned (load_bytes width) address)) [
+    | inl a ↦
+        let c = load_costs (after_lookup t ws root address Load) width rd address (looked_up t ws root address Load).frame (looked_up t ws root address Load).cost in
+        let small = rw a at l in
+        rw a (c.1 ∙ cheap address Load (omega (arith, c.0, small)))
+    | inr a ↦ rw a refl
+  ]
+
+  cheap_store : (width : StoreWidth) (address value : ℕ) →
+      (store_ran x t ws root width address value).cost < page_walk → (store_ran x t ws root width address value).tables.tlb ≡ t.tlb
+  unfolding store_ran
+  cheap_store width address value l = elim (cases_Bool (is_aligned (store_bytes width) address)) [
+    | inl a ↦
+        let c = store_costs (after_lookup t ws root address Store) width address value (looked_up t ws root address Store).frame (looked_up t ws root address Store).cost in
+        let small = rw a at l in
+        rw a (c.1 ∙ cheap address Store (omega (arith, c.0, small)))
+    | inr a ↦ rw a refl
+  ]
+
+  cheap_doing : (d : Doing) → (executed x t ws root d).cost < page_walk → (executed x t ws root d).tables.tlb ≡ t.tlb
+  unfolding executed
+  cheap_doing (sets rd value) l = refl
+  cheap_doing (jumps rd target) l = refl
+  cheap_doing (branches taken target) l = elim (cases_Bool (misses_target taken target)) [ inl a ↦ rw a refl | inr a ↦ rw a refl ]
+  cheap_doing (loads width rd address) l = cheap_load width rd address l
+  cheap_doing (stores width address value) l = cheap_store width address value l
+
+  cheap_decoded : (clock : ℕ) (o : Option Instruction) → (decoded_ran x t ws root clock o).cost < page_walk → (decoded_ran x t ws root clock o).tables.tlb ≡ t.tlb
+  cheap_decoded clock None l = refl
+  cheap_decoded clock (Some i) l = cheap_doing (doing i x clock) l
+
+  cheap_ran : (clock w : ℕ) → (word_ran x t ws root clock w).cost < page_walk → (word_ran x t ws root clock w).tables.tlb ≡ t.tlb
+  unfolding word_ran
+  cheap_ran clock w = cheap_decoded clock (decoded w)
+
+pub cheap_word : (core : Core) (ws : List ℕ) (frame : ℕ) → (run_from core ws frame).cost < page_walk → (run_from core ws frame).tables.tlb ≡ core.tables.tlb
+cheap_word core ws frame = cheap_ran core.context core.tables ws core.root core.clock _
+
+-- a page that the TLB has needs no look-up: it would find the same frame and leave the core as it is
+pub at_hand_found : (core : Core) (ws : List ℕ) (page frame : ℕ) → page ≡ core.context.pc / 4096 → found core.tables.tlb page Fetch None ≡ hit frame →
+    (hit frame ≡ looked_up core.tables ws core.root core.context.pc Fetch) × (core ≡ faulted core ws core.context.pc Fetch (Some frame))
+at_hand_found core ws page frame e h =
+    let k = known_hit core.tables.tlb (core.context.pc / 4096) Fetch frame (walked ws core.root (core.context.pc / 4096)) (rw e at h) in
+    (sym k.0, ap (λ tlb. record core { tables = record { cache = core.tables.cache; tlb = tlb; predictor = core.tables.predictor } }) (sym k.1))

@@ -136,6 +136,10 @@ on core runs ws = runs core.context core.tables ws core.root
 abbrev pub step_of : Core → List ℕ → Ran
 step_of core ws = on core stepped ws core.clock
 
+-- the word at the counter, in the frame that its page was found in
+abbrev pub run_from : Core → List ℕ → ℕ → Ran
+run_from core ws frame = on core word_ran ws core.clock (word ws frame (core.context.pc % 4096 / 4))
+
 abbrev pub execution_of : Core → List ℕ → Instruction → Ran
 execution_of core ws i = on core executed ws (doing i core.context core.clock)
 

@@ -7,5 +7,6 @@ pub mod execute;
 pub mod laws;
 pub mod memory;
 pub mod step;
+pub mod stepper;
 #[cfg(test)]
 mod tests;

@@ -1,7 +1,9 @@
 // A core with the program that it runs, and one step of it.
-ghost use Rattle.std.specs.Prelude.{◌≡◌, ◌+◌, ◌≤◌};
+ghost use Rattle.std.specs.Prelude.{◌≡◌, ◌+◌, ◌/◌, ◌<◌, ◌≤◌, None};
+ghost use Rattle.std.specs.Option.{ForSome};
 ghost use Rattle.words.specs.Costs.{highest, instruction, miss, page_walk, write_back};
-ghost use Rattle.hart.specs.Core.{faulted, first_core, later, looked_up, on, step_of, with_ran, word_ran};
+ghost use Rattle.tables.specs.Tlb.{found, hit};
+ghost use Rattle.hart.specs.Core.{faulted, first_core, later, looked_up, on, run_from, step_of, with_ran, word_ran};
 
 use crate::cause::Cause;
 use crate::context::{Context, State};
@@ -75,22 +77,39 @@ impl Core {
         if let State::Stopped { .. } = self.context.state {
             return INSTRUCTION;
         }
-        let pc = self.context.pc;
-        let found = self.look_up(words, pc, Access::Fetch);
-        let cost = INSTRUCTION + found.cost;
+        let found = self.look_up(words, self.context.pc, Access::Fetch);
         let Some(frame) = found.frame else {
-            return cost;
+            return INSTRUCTION + found.cost;
         };
+        INSTRUCTION + found.cost + self.run_in(frame, words, decoder)
+    }
+
+    // The instruction at the counter, whose page is in a frame.
+    #[tactic(auto, using(crate::proofs::Ran::cheap_word))]
+    pub(crate) fn run_in<D: Decode>(
+        &mut self,
+        frame: u32,
+        words: &mut [u32],
+        decoder: &mut D,
+    ) -> u32
+        ensures cost { result ≡ (run_from self.old words.old frame).cost }
+        ensures most { result ≤ page_walk + miss + write_back }
+        ensures core { self.new ≡ with_ran self.old (run_from self.old words.old frame) }
+        ensures words { words.new ≡ (run_from self.old words.old frame).words }
+        ensures still { result < page_walk → self.new.tables.tlb ≡ self.old.tables.tlb }
+    {
+        let pc = self.context.pc;
         let word = frames::read(words, frame, pc % PAGE_BYTES / 4);
         // programs with one root after the other have other places for the same addresses
         let number = pc.wrapping_add(self.root.wrapping_mul(APART));
-        cost + self.run_word(word, number, words, decoder)
+        self.run_word(word, number, words, decoder)
     }
 
     // Finds the frame that an address lies in. A program that has none there, or not for this access, stops.
     pub(crate) fn look_up(&mut self, words: &[u32], address: u32, access: Access) -> Lookup
         ensures found { result ≡ looked_up self.old.tables words.now self.old.root address access }
         ensures most { result.cost ≤ page_walk }
+        ensures again { ForSome result.frame (λ frame. found self.new.tables.tlb (address / 4096) access None ≡ hit frame) }
         ensures core { self.new ≡ faulted self.old words.now address access result.frame }
     {
         let page = address / PAGE_BYTES;

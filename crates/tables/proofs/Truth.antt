@@ -17,7 +17,7 @@ use Rattle.tables.specs.declared.tlb.Tlb.{Tlb}
 use Rattle.tables.specs.declared.tlb.TlbEntry.{TlbEntry}
 use Rattle.tables.specs.Cache.{access_cost}
 use Rattle.tables.specs.Predictor.{is_right}
-use Rattle.tables.specs.Tlb.{entry_of, filled, filled_by, found, found_by, granted, known, leaf_for, put, reply}
+use Rattle.tables.specs.Tlb.{entry_of, filled, filled_by, found, found_by, granted, hit, known, leaf_for, put, reply}
 use Rattle.tables.specs.Honest.{Honest, TrueEntry, Truthful, reached}
 use Rattle.tables.specs.Laws.{Highest, Honesty, LookUps}
 use Rattle.tables.proofs.Lines.{access_costs, charged_at_most}
@@ -146,3 +146,23 @@ highest_costs = record {
   is_91 = refl;
   is_34 = refl;
 }
+
+-- a look-up that walks nothing fills nothing
+cheap_by : (tlb : Tlb) (page : ℕ) (access : Access) (o walk : Option Leaf) → (found_by access o walk).cost < page_walk → filled_by tlb page access o walk ≡ tlb
+cheap_by tlb page access None walk l = absurd (omega (arith, l))
+cheap_by tlb page access (Some leaf) walk l = refl
+
+pub cheap_look : (tlb : Tlb) (page : ℕ) (access : Access) (walk : Option Leaf) → (found tlb page access walk).cost < page_walk → filled tlb page access walk ≡ tlb
+unfolding found filled
+cheap_look tlb page access walk = cheap_by tlb page access (known tlb page) walk
+
+-- a page that is known needs no walk: whatever one would answer, the frame is the same and nothing is filled
+hit_by : (tlb : Tlb) (page : ℕ) (access : Access) (frame : ℕ) (o walk : Option Leaf) → found_by access o None ≡ hit frame →
+    (found_by access o walk ≡ hit frame) × (filled_by tlb page access o walk ≡ tlb)
+hit_by tlb page access frame None walk e = absurd (none-some frame (ap (λ l. l.frame) e))
+hit_by tlb page access frame (Some leaf) walk e = (e, refl)
+
+pub known_hit : (tlb : Tlb) (page : ℕ) (access : Access) (frame : ℕ) (walk : Option Leaf) → found tlb page access None ≡ hit frame →
+    (found tlb page access walk ≡ hit frame) × (filled tlb page access walk ≡ tlb)
+unfolding found filled
+known_hit tlb page access frame walk = hit_by tlb page access frame (known tlb page) walk

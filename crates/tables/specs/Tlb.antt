@@ -29,6 +29,10 @@ granted access (Some leaf) = cond (permitted leaf access) (Some leaf) None
 abbrev pub reply : ℕ → Option Leaf → Lookup
 reply cost leaf = record { frame = option_map (λ l. l.frame) leaf; cost = cost }
 
+-- the answer where a page is known and permits the access
+abbrev pub hit : ℕ → Lookup
+hit frame = record { frame = Some frame; cost = 0 }
+
 -- a page that is known needs no walk, and faults without one if it does not permit the access
 abbrev pub found_by : Access → Option Leaf → Option Leaf → Lookup
 found_by access (Some leaf) walk = reply 0 (granted access (Some leaf))

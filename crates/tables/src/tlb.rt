@@ -1,9 +1,10 @@
 // The TLB: the leaves of pages that were walked before.
-ghost use Rattle.std.specs.Prelude.{◌≡◌, ◌≤◌, option_map};
+ghost use Rattle.std.specs.Prelude.{◌≡◌, ◌≤◌, None, option_map};
+ghost use Rattle.std.specs.Option.{ForSome};
 ghost use Rattle.words.specs.Costs.{page_walk};
 ghost use Rattle.paging.specs.Walks.{walked};
 ghost use Rattle.tables.specs.Honest.{Honest, Truthful};
-ghost use Rattle.tables.specs.Tlb.{empty_tlb, filled, found, granted, put};
+ghost use Rattle.tables.specs.Tlb.{empty_tlb, filled, found, granted, hit, put, reply};
 
 use paging::access::Access;
 use paging::leaf::Leaf;
@@ -33,6 +34,20 @@ pub struct Lookup {
     pub cost: u32,
 }
 
+impl Lookup {
+    // A page that is known and does not permit the access. Out of line, or a hit would take five instructions more.
+    #[cold]
+    #[inline(never)]
+    fn fault() -> Self
+        ensures { result ≡ reply 0 None }
+    {
+        Lookup {
+            frame: None,
+            cost: 0,
+        }
+    }
+}
+
 impl Tlb {
     pub fn new() -> Self
         ensures { result ≡ empty_tlb }
@@ -49,6 +64,7 @@ impl Tlb {
         ensures answer { result ≡ found self.old page access (walked words.now root page) }
         ensures after { self.new ≡ filled self.old page access (walked words.now root page) }
         ensures most { result.cost ≤ page_walk }
+        ensures again { ForSome result.frame (λ frame. found self.new page access None ≡ hit frame) }
         ensures honest { Honest self.old words.now root → Truthful self.new words.now root page access result }
     {
         let entry = self.entries[page as usize % ENTRIES];
@@ -57,10 +73,7 @@ impl Tlb {
                 frame: Some(entry.leaf.frame),
                 cost: 0,
             },
-            Some(entry) if entry.page == page => Lookup {
-                frame: None,
-                cost: 0,
-            },
+            Some(entry) if entry.page == page => Lookup::fault(),
             _ => Lookup {
                 frame: self.walk_for(words, root, page, access),
                 cost: WALK,
