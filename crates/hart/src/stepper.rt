@@ -30,6 +30,7 @@ impl Window {
     }
 }
 
+#[derive(Clone, Copy)]
 pub struct Stepper {
     pub core: Core,
     window: Option<Window>,

@@ -9,6 +9,7 @@ use crate::switch::deliver;
 use checker::Accepted;
 use hart::context::Context;
 use hart::step::Core;
+use hart::stepper::Stepper;
 use isa::decoder::Decoder;
 use plan::model::{MOST_PARTITIONS, Plan};
 use tables::Tables;
@@ -59,13 +60,14 @@ impl Machine {
         if who >= MOST_PARTITIONS || self.turn == u32::MAX || self.clock >= LATEST {
             return None;
         }
-        let mut core = Core {
+        let mut stepper = Stepper::new(Core {
             context: self.contexts[who],
             tables: self.tables,
             root: u32::from(accepted.plan.partition(who).root),
             clock: self.clock,
-        };
-        let instructions = run_until(&mut core, words, slot.length, decoder);
+        });
+        let instructions = run_until(&mut stepper, words, slot.length, decoder);
+        let core = &stepper.core;
         self.contexts[who] = core.context;
         let report = Report {
             slot: self.turn,
@@ -76,7 +78,7 @@ impl Machine {
             pc: core.context.pc,
             state: core.context.state,
         };
-        self.switch(&accepted.plan, &core);
+        self.switch(&accepted.plan, core);
         deliver(accepted, slot.partition, words);
         Some(report)
     }
