@@ -1,4 +1,4 @@
--- The goal of `laws`.
+-- What is left to show of `laws`.
 use Rattle.admission.proofs.Blank.{worked}
 use Rattle.admission.proofs.laws.laws.Goals as goal
 

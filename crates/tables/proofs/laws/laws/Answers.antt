@@ -1,3 +1,4 @@
+-- What is left to show of `laws`.
 use Rattle.tables.proofs.Lines.{access_costs, comes_in, frame_is_tag, frames_conflict}
 use Rattle.tables.proofs.Sums.{charges}
 use Rattle.tables.proofs.Told.{remembers, write_backs}
