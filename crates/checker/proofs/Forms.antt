@@ -2,7 +2,8 @@
 use Rattle.std.proofs.Common.{◌≡◌, ℕ, ◌<◌, Bool, true, false, cond, not, ◌&&◌, ltb, ◌⊎◌, List, Some, None, Decides, Option, sym, refl, ◌∙◌, subst, inl, inr, arith}
 use Rattle.std.proofs.lemmas.Bool.{cases_Bool, lt-ltb, ltb-true, true≢false}
 use Rattle.std.proofs.lemmas.Bool.Decides.{nat_tests}
-use Rattle.words.specs.First.{first, or_else}
+use Rattle.std.specs.Option.{option_or}
+use Rattle.words.specs.First.{first}
 use Rattle.words.specs.Frames.{lent, word}
 use Rattle.words.proofs.First.{all_not, below_none, first_is, first_stays, none_below, not_any}
 use Rattle.paging.specs.Entries.{frame_of, is_leaf, is_pointer, is_valid}
@@ -44,7 +45,7 @@ good_table ws t h = all_not (bad_leaf_at ws t) 1024 (λ k l e.
 -- what a fault of a table says of its tests: below 256, lent, bad
 module _ where
   tested : Bool → Bool → Bool → Option Fault
-  tested a b c = or_else (cond a (cond b None (Some NotLent)) (Some Broken)) (cond c (Some Broken) None)
+  tested a b c = option_or (cond a (cond b None (Some NotLent)) (Some Broken)) (cond c (Some Broken) None)
 
   tested_none : (a b c : Bool) → tested a b c ≡ None → (a ≡ true) × (b ≡ true) × (c ≡ false)
   unfolding tested

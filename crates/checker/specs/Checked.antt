@@ -1,7 +1,8 @@
 -- All rules in their order, and what an accepted plan comes with.
 use Rattle.std.specs.Prelude.{◌≡◌, ℕ, ◌<◌, ◌≤◌, List, take, Option, Result}
+use Rattle.std.specs.Option.{option_or}
 use Rattle.words.specs.Bytes.{byte}
-use Rattle.words.specs.First.{first, or_else, unless}
+use Rattle.words.specs.First.{first, unless}
 use Rattle.plan.specs.declared.model.Plan.{Plan}
 use Rattle.plan.specs.declared.refusal.Refusal.{Refusal}
 use Rattle.plan.specs.Format.{plan_of, rows}
@@ -14,17 +15,17 @@ use Rattle.checker.specs.Tables.{table_refusal}
 
 unfoldable pub first_refusal : List ℕ → List ℕ → Plan → Option Refusal
 first_refusal bytes words p =
-    or_else (truncated bytes p)
-    (or_else (first (count_fault p.counts) 3)
-    (or_else (first (slot_fault p) p.counts.slots)
-    (or_else (first (channel_fault p) p.counts.channels)
-    (or_else (first (page_refusal words p) p.counts.channels)
-    (or_else (first (root_refusal words p) p.counts.partitions)
-    (or_else (first (table_refusal words p) p.counts.partitions)
-    (or_else (first (share_refusal words p) p.counts.partitions)
-    (or_else (first (start_fault p) p.counts.partitions)
-    (or_else (budget_fault p)
-    (or_else (lent_refusal words p)
+    option_or (truncated bytes p)
+    (option_or (first (count_fault p.counts) 3)
+    (option_or (first (slot_fault p) p.counts.slots)
+    (option_or (first (channel_fault p) p.counts.channels)
+    (option_or (first (page_refusal words p) p.counts.channels)
+    (option_or (first (root_refusal words p) p.counts.partitions)
+    (option_or (first (table_refusal words p) p.counts.partitions)
+    (option_or (first (share_refusal words p) p.counts.partitions)
+    (option_or (first (start_fault p) p.counts.partitions)
+    (option_or (budget_fault p)
+    (option_or (lent_refusal words p)
     (surplus bytes p)))))))))))
 
 -- the plan, and the frames behind the pages of its channels

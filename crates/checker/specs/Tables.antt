@@ -1,6 +1,7 @@
 -- The rule on the form of page tables as tests: entries are read from the first on, and the first at fault decides.
 use Rattle.std.specs.Prelude.{◌≡◌, ℕ, ◌<◌, Bool, true, cond, not, ◌&&◌, List, Some, None, Option, nat_lt}
-use Rattle.words.specs.First.{any, first, or_else}
+use Rattle.std.specs.Option.{option_or}
+use Rattle.words.specs.First.{any, first}
 use Rattle.words.specs.Frames.{lent, word}
 use Rattle.paging.specs.Entries.{frame_of, is_leaf, is_pointer, is_valid}
 use Rattle.plan.specs.declared.model.Plan.{Plan}
@@ -24,7 +25,7 @@ unfoldable pub bad_table : List ℕ → ℕ → Bool
 bad_table words table = any (bad_leaf_at words table) 1024
 
 unfoldable pub table_fault : List ℕ → ℕ → Option Fault
-table_fault words table = or_else (frame_fault words table) (cond (bad_table words table) (Some Broken) None)
+table_fault words table = option_or (frame_fault words table) (cond (bad_table words table) (Some Broken) None)
 
 -- an entry of a root that is valid has to point to a table without fault
 unfoldable pub entry_fault : List ℕ → ℕ → Option Fault

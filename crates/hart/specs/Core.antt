@@ -10,6 +10,7 @@ use Rattle.isa.specs.Decoding.{decoded}
 use Rattle.paging.specs.declared.access.Access.{Access}
 use Rattle.paging.specs.declared.access.Access.TheVariants.{Fetch, Load, Store}
 use Rattle.paging.specs.declared.translate.Place.{Place}
+pub use Rattle.paging.specs.Accesses.{place_in}
 use Rattle.paging.specs.Walks.{walked}
 use Rattle.tables.specs.declared.Tables.{Tables}
 use Rattle.tables.specs.declared.tlb.Lookup.{Lookup}
@@ -43,9 +44,6 @@ looked_up t ws root address access = found t.tlb (address / 4096) access (walked
 abbrev pub after_lookup : Tables → List ℕ → ℕ → ℕ → Access → Tables
 after_lookup t ws root address access =
     record { cache = t.cache; tlb = filled t.tlb (address / 4096) access (walked ws root (address / 4096)); predictor = t.predictor }
-
-abbrev pub place_in : ℕ → ℕ → Place
-place_in frame address = record { frame = frame; offset = address % 4096 }
 
 abbrev pub with_access : Tables → Place → Bool → Tables
 with_access t place store = record { cache = accessed t.cache (line_of place) store; tlb = t.tlb; predictor = t.predictor }

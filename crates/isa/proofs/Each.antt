@@ -2,8 +2,8 @@
 use Rattle.std.proofs.Common.{◌≡◌, ℕ, ◌+◌, ◌*◌, ◌/◌, ◌%◌, ◌^◌, ◌<◌, eqb, ℤ, pos, negsuc, Some, None, Option, refl, ap, ◌∙◌, inl, inr, arith}
 use Rattle.std.proofs.lemmas.Int.{ints}
 use Rattle.std.proofs.lemmas.Bool.{cond-true, eq-eqb, and_from}
+use Rattle.std.specs.Option.{option_or}
 use Rattle.words.specs.Bits.{field, signed}
-use Rattle.words.specs.First.{or_else}
 use Rattle.isa.specs.declared.register.Register.{Register}
 use Rattle.isa.specs.declared.instruction.Operation.{Operation}
 use Rattle.isa.specs.declared.instruction.Instruction.{Instruction}
@@ -46,7 +46,7 @@ module _ (w : ℕ) (k : Operation) (d r : Register) (z : ℤ) where
       let m = i_back w (remainder 12 z) (funct3_of k) 0x13 r d (operation_row k).1 (omega arith) (bits_below 12 z) (omega arith) in
       let s = ap (signed 12) m.1 ∙ signed_of_bits 12 z (omega arith) h in
       let c : constant w ≡ Some (RegisterImmediate k d r z) = meets funct3_of constants _ (funct3 w) k m.0.in_funct3 listed ∙ cc in
-      (m.0.word, major w Major.OPIMM _ m.0.in_opcode refl (ap (λ o. or_else o (shift w)) c))
+      (m.0.word, major w Major.OPIMM _ m.0.in_opcode refl (ap (λ o. option_or o (shift w)) c))
 
 shift_back : (w : ℕ) (k : Operation) (d r : Register) (n : ℕ) → Listed operation_number shifts k → n < 32 → encoding (RegisterImmediate k d r (pos n)) ≡ w →
     Back w (RegisterImmediate k d r (pos n))
@@ -57,7 +57,7 @@ shift_back w k d r n listed small q =
     let both : funct7 w * 8 + funct3 w ≡ operation_number k = omega (arith, m.0.in_funct7, m.0.in_funct3) in
     let none : constant w ≡ None = finds funct3_of constants _ (funct3 w) (funct3_of k) None m.0.in_funct3 (apart k listed) in
     let s : shift w ≡ Some (RegisterImmediate k d r (pos n)) = meets operation_number shifts _ (funct7 w * 8 + funct3 w) k both listed ∙ cc in
-    (m.0.word, major w Major.OPIMM _ m.0.in_opcode refl (ap (λ o. or_else o (shift w)) none ∙ s))
+    (m.0.word, major w Major.OPIMM _ m.0.in_opcode refl (ap (λ o. option_or o (shift w)) none ∙ s))
 
 pub back : (w : ℕ) (i : Instruction) → Lawful i → encoding i ≡ w → Back w i
 back w (Lui d z) (h, e) q =

@@ -2,6 +2,7 @@
 use Rattle.std.proofs.Common.{rules, ◌≡◌, ℕ, ◌+◌, ◌*◌, ◌%◌, ◌^◌, ◌<◌, Bool, true, cond, ◌&&◌, eqb, List, pos, Some, None, Option, sym, ap, ◌∙◌, inl, inr, arith}
 use Rattle.std.proofs.lemmas.Int.{ints}
 use Rattle.std.proofs.lemmas.Bool.{eqb-true, and_parts}
+use Rattle.std.specs.Option.{option_and_then}
 use Rattle.words.specs.Bits.{field, signed}
 use Rattle.words.proofs.First.{or_some}
 use Rattle.words.proofs.Signs.{signs}
@@ -15,7 +16,7 @@ use Rattle.isa.specs.declared.instruction.Instruction.TheVariants.{Lui, Auipc, J
 use Rattle.isa.specs.Formats.{opcode, rd, funct3, rs1, rs2, funct7, i_bits, s_bits, b_bits, u_bits, j_bits, i_immediate, s_immediate, b_immediate, u_immediate, j_immediate}
 use Rattle.isa.specs.Meaning.{remainder}
 use Rattle.isa.specs.Tables.{numbered, Listed, Major, opcode_of, majors, condition_number, conditions, load_number, loads, store_number, stores, operation_number, operations, funct3_of, funct7_of, constants, shifts, counter_number, counters}
-use Rattle.isa.specs.Decoding.{and_then, constant, shift, in_major, decoded}
+use Rattle.isa.specs.Decoding.{constant, shift, in_major, decoded}
 use Rattle.isa.specs.Encoding.{encoding, Within, Lawful}
 use Rattle.isa.proofs.Complement.{bits_of_signed, low_bits}
 use Rattle.isa.proofs.Rows.{and_some, found, plain, operation_row}
@@ -109,7 +110,7 @@ module _ (w : ℕ) (i : Instruction) (h : w < 2 ^ 32) where
   is o e = search rules
 
   by_row : {A : Type 0} (number : A → ℕ) (rows : List A) (n : ℕ) (make : A → Instruction) →
-      ((a : A) → n ≡ number a → Listed number rows a → Of w (make a)) → and_then (numbered number rows n) (λ a. Some (make a)) ≡ Some i → Of w i
+      ((a : A) → n ≡ number a → Listed number rows a → Of w (make a)) → option_and_then (λ a. Some (make a)) (numbered number rows n) ≡ Some i → Of w i
   by_row number rows n make each e =
       let r = and_some (numbered number rows n) (λ a. Some (make a)) i e in
       let f = found number rows n r.0 r.1 in

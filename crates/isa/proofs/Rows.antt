@@ -1,11 +1,11 @@
 -- Rows of a table, and the numbers that find them.
 use Rattle.std.proofs.Common.{◌≡◌, ℕ, ◌^◌, ◌<◌, List, [], ◌∷◌, Some, None, Option, rules}
+use Rattle.std.specs.Option.{option_and_then}
 use Rattle.isa.specs.declared.instruction.Operation.{Operation}
 use Rattle.isa.specs.declared.instruction.Condition.{Condition}
 use Rattle.isa.specs.declared.instruction.LoadWidth.{LoadWidth}
 use Rattle.isa.specs.declared.instruction.StoreWidth.{StoreWidth}
 use Rattle.isa.specs.declared.instruction.Counter.{Counter}
-use Rattle.isa.specs.Decoding.{and_then}
 use Rattle.isa.specs.Tables.{numbered, Listed, condition_number, conditions, load_number, loads, store_number, stores, operation_number, operations, funct3_of, funct7_of, constants, shifts, counter_number, counters}
 
 pub some_is : {A : Type 0} {a b : A} → Some a ≡ Some b → a ≡ b
@@ -15,7 +15,7 @@ pub none_is : {A : Type 0} {Q : Type 0} {a : A} → None ≡ Some a → Q
 none_is e = absurd (cc)
 
 -- what follows from a row comes from a row
-pub and_some : {A B : Type 0} (o : Option A) (f : A → Option B) (b : B) → and_then o f ≡ Some b → (a : A) × (o ≡ Some a) × (f a ≡ Some b)
+pub and_some : {A B : Type 0} (o : Option A) (f : A → Option B) (b : B) → option_and_then f o ≡ Some b → (a : A) × (o ≡ Some a) × (f a ≡ Some b)
 and_some o f b e = search rules
 
 module _ {A : Type 0} (number : A → ℕ) where
@@ -25,10 +25,10 @@ module _ {A : Type 0} (number : A → ℕ) where
   found (r ∷ rows) n a e = search (rules, found rows n a)
 
   -- the same number finds the same
-  pub finds : {B : Type 0} (rows : List A) (f : A → Option B) (n m : ℕ) (o : Option A) → n ≡ m → numbered number rows m ≡ o → and_then (numbered number rows n) f ≡ and_then o f
+  pub finds : {B : Type 0} (rows : List A) (f : A → Option B) (n m : ℕ) (o : Option A) → n ≡ m → numbered number rows m ≡ o → option_and_then f (numbered number rows n) ≡ option_and_then f o
   finds rows f n m o e l = rw (e, l)
 
-  pub meets : {B : Type 0} (rows : List A) (f : A → Option B) (n : ℕ) (a : A) → n ≡ number a → Listed number rows a → and_then (numbered number rows n) f ≡ f a
+  pub meets : {B : Type 0} (rows : List A) (f : A → Option B) (n : ℕ) (a : A) → n ≡ number a → Listed number rows a → option_and_then f (numbered number rows n) ≡ f a
   meets rows f n a = finds rows f n (number a) (Some a)
 
 -- every condition, width, operation and counter is in its table, with a number that its field can hold

@@ -1,7 +1,7 @@
 // From words to instructions. Every word that the tables do not have is illegal.
 ghost use Rattle.std.specs.Prelude.{◌≡◌};
 ghost use Rattle.std.specs.Result.{result_ok};
-ghost use Rattle.words.specs.First.{or_else};
+ghost use Rattle.std.specs.Option.{option_or};
 ghost use Rattle.isa.specs.Decoding.{branch, constant, decoded, jalr, load, read_counter, register_register, shift, store};
 
 use crate::fields::*;
@@ -61,7 +61,7 @@ fn store(word: u32) -> Result<Instruction, Illegal>
 
 // An operation with a constant. The shifts are by 0 to 31; what stands above those five bits tells the right shifts apart.
 fn register_immediate(word: u32) -> Result<Instruction, Illegal>
-    ensures { result_ok result ≡ or_else (constant word) (shift word) }
+    ensures { result_ok result ≡ option_or (constant word) (shift word) }
 {
     let amount = bits(word, 20, 5) as i32;
     let (operation, value) = match (funct3(word), bits(word, 20, 12)) {

@@ -7,7 +7,7 @@ use Rattle.paging.specs.declared.access.Access.TheVariants.{Fetch, Load, Store}
 use Rattle.paging.specs.declared.leaf.Leaf.{Leaf}
 use Rattle.paging.specs.declared.translate.PageFault.{PageFault}
 use Rattle.paging.specs.declared.translate.Place.{Place}
-use Rattle.paging.specs.Accesses.{page_fault, permitted, place_at}
+use Rattle.paging.specs.Accesses.{page_fault, permitted, place_in}
 use Rattle.paging.specs.Walks.{then_place, translated, walked}
 use Rattle.paging.specs.Mapping.{Allows, Reaches, Translates}
 use Rattle.paging.proofs.Found.{maps_walk, walk_maps}
@@ -28,15 +28,15 @@ module _ {X E : Type 0} (x : X) (e : E) where
   tested_err false d h = cc
 
 module _ (address : ℕ) (access : Access) where
-  placed_through : (o : Option Leaf) (place : Place) → then_place address access o ≡ Ok place → (leaf : Leaf) × (o ≡ Some leaf) × Allows leaf access × (place_at leaf address ≡ place)
+  placed_through : (o : Option Leaf) (place : Place) → then_place address access o ≡ Ok place → (leaf : Leaf) × (o ≡ Some leaf) × Allows leaf access × (place_in leaf.frame address ≡ place)
   placed_through None place e = absurd (let z : ◌≡◌ {A = ℕ} 0 1 = cc in omega arith)
   placed_through (Some leaf) place e =
-      let t = tested_ok (place_at leaf address) (page_fault access) (permitted leaf access) place e in
+      let t = tested_ok (place_in leaf.frame address) (page_fault access) (permitted leaf access) place e in
       (leaf, refl, (permitted_tells leaf access).0 t.0, t.1)
 
   faulted : (o : Option Leaf) (d : PageFault) → then_place address access o ≡ Err d → d.access ≡ access
   faulted None d e = cc
-  faulted (Some leaf) d e = ap (λ f. f.access) (sym (tested_err (place_at leaf address) (page_fault access) (permitted leaf access) d e))
+  faulted (Some leaf) d e = ap (λ f. f.access) (sym (tested_err (place_in leaf.frame address) (page_fault access) (permitted leaf access) d e))
 
 module _ (ws : List ℕ) (root address : ℕ) (access : Access) where
   reaches : (place : Place) → translated ws root address access ≡ Ok place → Reaches ws root address access place

@@ -3,8 +3,9 @@ use Rattle.std.proofs.Common.{◌≡◌, ℕ, ◌*◌, ◌/◌, ◌^◌, refl, i
 use Rattle.std.proofs.lemmas.Nat.{mod_below}
 use Rattle.std.proofs.lemmas.Bool.{cases_eq}
 use Rattle.words.specs.Bits.{field}
+use Rattle.words.specs.First.{weight}
 use Rattle.paging.specs.Entries.{flag}
-use Rattle.paging.specs.Laws.{EntriesAddUp, weight}
+use Rattle.paging.specs.Laws.{EntriesAddUp}
 
 -- a flag adds its bit
 bit : (entry at value : ℕ) → weight (flag entry at) value ≡ value * field entry at 1

@@ -1,3 +1,4 @@
+-- The example memory, worked out.
 use Rattle.std.proofs.Common.{refl}
 use Rattle.paging.specs.Entries.{flag}
 use Rattle.paging.specs.Walks.{translated, walked}

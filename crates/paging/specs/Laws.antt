@@ -1,16 +1,13 @@
 -- What the definitions of this crate come to.
-use Rattle.std.specs.Prelude.{◌≡◌, ℕ, ◌+◌, ◌*◌, ◌^◌, ◌<◌, ◌≤◌, Bool, cond, List, None}
+use Rattle.std.specs.Prelude.{◌≡◌, ℕ, ◌+◌, ◌*◌, ◌^◌, ◌<◌, ◌≤◌, List, None}
 use Rattle.words.specs.Bits.{field}
+use Rattle.words.specs.First.{weight}
 use Rattle.words.specs.Frames.{lent, word, written}
 use Rattle.paging.specs.declared.leaf.Leaf.{Leaf}
 use Rattle.paging.specs.Entries.{flag, frame_of, is_accessed, is_dirty, is_executable, is_readable, is_user, is_valid, is_writable}
 use Rattle.paging.specs.Mapping.{Finds, LeafEntry, Maps, Pointer}
 use Rattle.paging.specs.Tables.{Alike, KernelFrame, Names, SameTables}
 use Rattle.paging.specs.Walks.{walked}
-
--- what a flag adds to an entry
-abbrev pub weight : Bool → ℕ → ℕ
-weight set value = cond set value 0
 
 -- an entry is the sum of its fields: V, R, W, X, U, G, A and D from bit 0 on, two bits for software, and the frame
 abbrev pub EntriesAddUp : Type 0

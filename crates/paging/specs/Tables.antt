@@ -34,7 +34,7 @@ SameTables ws vs root = (frame k : ℕ) → KernelFrame ws root frame → k < 10
 
 -- of the root, its tables and the frames that they name, two memories lend the same; they may lend different numbers of frames
 abbrev pub SameLent : List ℕ → List ℕ → ℕ → Type 0
-SameLent ws vs root = (frame : ℕ) → KernelFrame ws root frame ⊎ Names ws root frame → lent vs frame ≡ lent ws frame
+SameLent ws vs root = (frame : ℕ) → Owns ws root frame → lent vs frame ≡ lent ws frame
 
 -- what two memories with the same tables have in common
 pub record Alike (ws vs : List ℕ) (root : ℕ) : Type 0 where

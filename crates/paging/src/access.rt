@@ -1,24 +1,7 @@
 // What a program wants of a page.
-ghost use Rattle.std.specs.Prelude.{◌≡◌};
-ghost use Rattle.paging.specs.Accesses.{cause_of};
-
 #[derive(Clone, Copy, PartialEq, Eq, Debug)]
 pub enum Access {
     Fetch,
     Load,
     Store,
-}
-
-impl Access {
-    // The cause with which a program stops when such an access faults.
-    // It stays a number, since that is what it promises: the enum of all causes stands above, with the core.
-    pub fn cause(self) -> u8
-        ensures { result ≡ cause_of self }
-    {
-        match self {
-            Access::Fetch => 3,
-            Access::Load => 5,
-            Access::Store => 7,
-        }
-    }
 }

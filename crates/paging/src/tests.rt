@@ -117,9 +117,9 @@ fn each_permission(rt: HostRuntime) {
 }
 
 #[test]
-fn places_and_causes(rt: HostRuntime) {
+fn places_and_faults(rt: HostRuntime) {
     let words = memory(POINTER, LEAF);
-    for (access, cause) in [(Access::Fetch, 3), (Access::Load, 5), (Access::Store, 7)] {
+    for access in [Access::Fetch, Access::Load, Access::Store] {
         let place = Place {
             frame: 2,
             offset: 0xABC,
@@ -129,7 +129,6 @@ fn places_and_causes(rt: HostRuntime) {
             translate(&words, 0, 0x11ABC, access),
             Err(PageFault { access })
         );
-        assert_eq!(rt; access.cause(), cause);
     }
 }
 

@@ -2,7 +2,8 @@
 -- A finding has a rule and a place, and says with which refusal the plan is refused.
 use Rattle.std.proofs.Common.{◌≡◌, ℕ, ◌<◌, ◌≤◌, Bool, true, false, Some, None, Decides, Option, sym, refl, ◌∙◌, subst, inl, inr, arith}
 use Rattle.std.proofs.lemmas.Bool.{cases_eq, cases_lt, both_ways}
-use Rattle.words.specs.First.{first, or_else}
+use Rattle.std.specs.Option.{option_or}
+use Rattle.words.specs.First.{first}
 use Rattle.words.proofs.First.{or_none, or_some, first_is, none_below}
 use Rattle.plan.specs.declared.refusal.Refusal.{Refusal}
 use Rattle.plan.specs.Lawful.{Earlier}
@@ -29,7 +30,7 @@ module _ {F : Type 0} (rule place : F → ℕ) (says : F → Refusal) (Found : F
 
   -- a rule before others, which may count on it
   pub chain : (s r : Option Refusal) (m n : ℕ) → m < n → ((d : F) → m < rule d → Found d → n ≤ rule d) →
-      Stage s n → (s ≡ None → After r n) → After (or_else s r) m
+      Stage s n → (s ≡ None → After r n) → After (option_or s r) m
   chain s r m n l gap here rest = record {
     kept = λ e d h b. let z = or_none s r e in elim (cases_eq (rule d) n) [
       | inl same ↦ here.kept z.0 d same b

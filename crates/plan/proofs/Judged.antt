@@ -1,10 +1,10 @@
 -- The parser's answer is the verdict that the rules ask for.
 use Rattle.std.proofs.Common.{◌≡◌, ℕ, ◌<◌, ◌≤◌, List, Some, None, Option, Result, refl, subst, arith}
+use Rattle.std.specs.Option.{option_or}
 use Rattle.plan.specs.declared.refusal.Refusal.{Refusal}
 use Rattle.plan.specs.declared.refusal.Refusal.TheVariants.{Truncated, CountRange, SlotRule, ChannelRule, ChannelPage, RootRule, TableMalformed, FrameShared, StartMisaligned, BudgetRule, FramesMissing, Surplus}
 use Rattle.plan.specs.declared.model.Plan.{Plan}
 use Rattle.plan.specs.Format.{plan_of}
-use Rattle.words.specs.First.{or_else}
 use Rattle.plan.specs.Refused.{number_of, place_of}
 use Rattle.plan.specs.Rules.{fault, parsed}
 use Rattle.plan.specs.Lawful.{Before, Broken, Judges}
@@ -62,7 +62,7 @@ module _ (bytes : List ℕ) where
   All s m = After number_of place_of itself (Broken bytes) s m
 
   next : (s r : Option Refusal) (m n : ℕ) → m < n → ((d : Refusal) → m < number_of d → Broken bytes d → n ≤ number_of d) →
-      PlanStage bytes s n → All r n → All (or_else s r) m
+      PlanStage bytes s n → All r n → All (option_or s r) m
   next s r m n l gap here rest = chain number_of place_of itself (Broken bytes) s r m n l gap here (λ _. rest)
 
   all : All (fault bytes (plan_of bytes)) 0

@@ -8,4 +8,19 @@ use Rattle.plan.specs.Example.{Example}
 
 pub worked : Example
 unfolding first count most plan_of rows parsed fault begins
-worked = record { accepted = refl; first = refl; second = refl; third = refl; fourth = refl }
+worked = record {
+  accepted = refl;
+  first = refl;
+  second = refl;
+  third = refl;
+  fourth = refl;
+  needs = refl;
+  enough = refl;
+  not_enough = refl;
+  too_short = refl;
+  no_partitions = refl;
+  short_slot = refl;
+  own_channel = refl;
+  odd_start = refl;
+  too_long = refl;
+}

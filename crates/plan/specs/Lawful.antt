@@ -1,4 +1,5 @@
--- The rules of a plan that need no memory, each a sentence of its own. No order and no search stands in them.
+-- The rules of a plan that need no memory, each a sentence of its own. No order stands in them; the one thing that is
+-- counted is how many channels lead out of a partition.
 use Rattle.std.specs.Prelude.{◌≡◌, ℕ, ◌%◌, ◌<◌, ◌≤◌, ◌≢◌, ◌⊎◌, List, length, Result, MatchResult}
 use Rattle.plan.specs.declared.model.Plan.{Plan}
 use Rattle.plan.specs.declared.refusal.Count.{Count}
@@ -58,9 +59,13 @@ Broken bytes BudgetRule = BudgetFits (plan_of bytes) → ⊥
 Broken bytes FramesMissing = ⊥
 Broken bytes (Surplus at) = (plan_size (plan_of bytes).counts < length bytes) × (at ≡ plan_size (plan_of bytes).counts)
 
+-- one finding comes before another: by its rule, and within a rule by its place
+abbrev pub Earlier : {F : Type 0} → (F → ℕ) → (F → ℕ) → F → F → Type 0
+Earlier rule place e d = (rule e < rule d) ⊎ ((rule e ≡ rule d) × (place e ≤ place d))
+
 -- a refusal comes before another: by its number, and within a number by its place
 abbrev pub Before : Refusal → Refusal → Type 0
-Before e d = (number_of e < number_of d) ⊎ ((number_of e ≡ number_of d) × (place_of e ≤ place_of d))
+Before = Earlier number_of place_of
 
 -- of all rules that are broken, the first
 pub record FirstBroken (bytes : List ℕ) (e : Refusal) : Type 0 where
@@ -71,7 +76,3 @@ pub record FirstBroken (bytes : List ℕ) (e : Refusal) : Type 0 where
 pub record Judges (bytes : List ℕ) (r : Result Plan Refusal) : Type 0 where
   pub accepts : Lawful bytes → r ≡ Result.Ok (plan_of bytes)
   pub cases : MatchResult r (λ p. Lawful bytes × (p ≡ plan_of bytes)) (λ e. FirstBroken bytes e)
-
--- one finding comes before another: by its rule, and within a rule by its place
-abbrev pub Earlier : {F : Type 0} → (F → ℕ) → (F → ℕ) → F → F → Type 0
-Earlier rule place e d = (rule e < rule d) ⊎ ((rule e ≡ rule d) × (place e ≤ place d))

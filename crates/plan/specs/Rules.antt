@@ -1,8 +1,9 @@
 -- The rules of a plan that need no memory as tests, and the refusal of the first that is broken.
 use Rattle.std.specs.Prelude.{◌≡◌, ℕ, ◌+◌, ◌*◌, ◌%◌, ◌<◌, ◌≤◌, Bool, cond, not, ◌&&◌, List, length, take, Some, None, Option, Result, ◌==◌, nat_le, nat_lt, slice_index_or}
+use Rattle.std.specs.Option.{option_or}
 use Rattle.words.specs.Bytes.{byte}
 use Rattle.words.specs.Costs.{switch, message}
-use Rattle.words.specs.First.{or_else, unless, first, count, most}
+use Rattle.words.specs.First.{unless, first, count, most}
 use Rattle.plan.specs.declared.model.Counts.{Counts}
 use Rattle.plan.specs.declared.model.Partition.{Partition}
 use Rattle.plan.specs.declared.model.Slot.{Slot}
@@ -82,12 +83,12 @@ surplus bytes p = broken_unless (nat_le (length bytes) (plan_size p.counts)) (Su
 -- the rules in their order
 unfoldable pub fault : List ℕ → Plan → Option Refusal
 fault bytes p =
-    or_else (truncated bytes p)
-    (or_else (first (count_fault p.counts) 3)
-    (or_else (first (slot_fault p) p.counts.slots)
-    (or_else (first (channel_fault p) p.counts.channels)
-    (or_else (first (start_fault p) p.counts.partitions)
-    (or_else (budget_fault p) (surplus bytes p))))))
+    option_or (truncated bytes p)
+    (option_or (first (count_fault p.counts) 3)
+    (option_or (first (slot_fault p) p.counts.slots)
+    (option_or (first (channel_fault p) p.counts.channels)
+    (option_or (first (start_fault p) p.counts.partitions)
+    (option_or (budget_fault p) (surplus bytes p))))))
 
 -- the refusal of the first broken rule, or the plan that the bytes say
 unfoldable pub parsed : List ℕ → Result Plan Refusal

@@ -104,6 +104,16 @@ fn counts_past_their_range(rt: HostRuntime) {
     }
 }
 
+// one partition, one slot and no channel pass the counts' rule: a slot of 0 cycles is refused then
+#[test]
+fn counts_below_their_range(rt: HostRuntime) {
+    for (counts, number, place) in [([0, 1, 0], 2, 0), ([1, 0, 0], 2, 1), ([1, 1, 0], 3, 0)] {
+        let mut bytes = [0; 18];
+        bytes[0..3].copy_from_slice(&counts);
+        assert_eq!(rt; verdict(&bytes), Some((number, place)));
+    }
+}
+
 // budgets, and whether each is in range and ample with the channel and without it
 const BUDGETS: [(u32, bool, bool); 7] = [
     (63, false, false),

@@ -4,3 +4,4 @@ pub mod Words
 pub mod Outcome
 pub mod Tally
 pub mod Memory
+pub mod Laws

@@ -1,6 +1,7 @@
 // The vectors of the public RISC-V test suite (rv32ui) that compute or branch, as tables, and what runs them on a core.
 #![tactic(auto)]
 
+pub mod laws;
 pub mod memory;
 pub mod operation;
 pub mod row;

@@ -9,7 +9,7 @@ use Rattle.tables.specs.declared.cache.Line.{Line}
 use Rattle.tables.specs.Cache.{accessed, empty_cache, has_tag, held, hits, is_dirty, line_of, place_of, renewed, tag_of}
 use Rattle.tables.specs.Rows.{Whole, dirty_in}
 use Rattle.tables.specs.History.{Conflict}
-use Rattle.tables.specs.Laws.{AccessCosts, ComesIn, FramesConflict}
+use Rattle.tables.specs.Laws.{AccessCosts, ComesIn, FrameIsTag, FramesConflict}
 
 -- a line's place and tag make up its number
 pub one_line : (a b : ℕ) → place_of a ≡ place_of b → tag_of a ≡ tag_of b → a ≡ b
@@ -88,6 +88,9 @@ priced false true = inr (inr refl)
 
 pub access_costs : AccessCosts
 access_costs cache line = priced (hits cache line) (is_dirty (held cache line))
+
+pub frame_is_tag : FrameIsTag
+frame_is_tag place = record { at = omega arith; tag = omega arith }
 
 pub comes_in : ComesIn
 comes_in cache line store whole =

@@ -6,18 +6,18 @@ use Rattle.std.proofs.lemmas.List.Sums.{count_by_more_no, count_by_more_yes}
 use Rattle.std.proofs.lemmas.Bool.{cases_Bool, and_left, and_right, and_from, eq-eqb, ne_eqb, not_from_true, not_from_false}
 use Rattle.std.specs.List.{count_by}
 use Rattle.words.specs.Costs.{cache_lines, miss, write_back}
-use Rattle.words.specs.First.{count}
+use Rattle.words.specs.First.{count, weight}
 use Rattle.words.proofs.First.{count_change}
 use Rattle.tables.specs.declared.cache.Cache.{Cache}
 use Rattle.tables.specs.declared.cache.Line.{Line}
 use Rattle.tables.specs.Cache.{dirty_at, dirty_count, empty_cache, held, has_tag, hits, is_dirty, place_of, renewed, tag_of}
-use Rattle.tables.specs.Rows.{Use, Whole, after, brings_in, conflicts, dirty_in, drives_out, drives_out_line, makes_dirty, makes_line_dirty, row_cost, times, used, weigh}
+use Rattle.tables.specs.Rows.{Use, Whole, after, brings_in, conflicts, dirty_in, drives_out, drives_out_line, makes_dirty, makes_line_dirty, row_cost, times, used}
 use Rattle.tables.specs.Laws.{Charges}
 use Rattle.tables.proofs.Lines.{dirty_away, dirty_gone, dirty_same, held_empty, meets, whole_accessed, whole_empty}
 
 -- what leaves and what is left is what came and what was there: for each access, and so for a row
 module _ (out into : Cache → Use → Bool) (stock : Cache → ℕ)
-    (each : (cache : Cache) (u : Use) → Whole cache → weigh (out cache u) + stock (used cache u) ≡ weigh (into cache u) + stock cache) where
+    (each : (cache : Cache) (u : Use) → Whole cache → weight (out cache u) 1 + stock (used cache u) ≡ weight (into cache u) 1 + stock cache) where
   balanced : (row : List Use) (cache : Cache) → Whole cache → times out cache row + stock (after cache row) ≡ times into cache row + stock cache
   unfolding after times
   balanced [] cache whole = refl
@@ -25,8 +25,8 @@ module _ (out into : Cache → Use → Bool) (stock : Cache → ℕ)
       omega (arith, each cache u whole, balanced row (used cache u) (whole_accessed cache u.line u.store whole))
 
 -- a whole cache
-sums : (hit dirty store : Bool) (now was : ℕ) → now + weigh dirty ≡ was + weigh (cond hit (dirty || store) store) →
-    weigh (not hit && dirty) + now ≡ weigh (store && not (hit && dirty)) + was
+sums : (hit dirty store : Bool) (now was : ℕ) → now + weight dirty 1 ≡ was + weight (cond hit (dirty || store) store) 1 →
+    weight (not hit && dirty) 1 + now ≡ weight (store && not (hit && dirty)) 1 + was
 sums true true true now was e = omega arith
 sums true true false now was e = omega arith
 sums true false true now was e = omega arith
@@ -36,14 +36,14 @@ sums false true false now was e = omega arith
 sums false false true now was e = omega arith
 sums false false false now was e = omega arith
 
-all_lines : (cache : Cache) (u : Use) → Whole cache → weigh (drives_out cache u) + dirty_count (used cache u) ≡ weigh (makes_dirty cache u) + dirty_count cache
+all_lines : (cache : Cache) (u : Use) → Whole cache → weight (drives_out cache u) 1 + dirty_count (used cache u) ≡ weight (makes_dirty cache u) 1 + dirty_count cache
 all_lines cache u whole =
     let at = place_of u.line in
     let new : Option Line = Some (renewed cache u.line u.store) in
     let inside : at < 64 = mod_below u.line 64 (omega arith) in
     let there : dirty_at (used cache u) at ≡ is_dirty new = ap is_dirty (get_or-set_same cache.lines at new None (omega arith)) in
     let change = count_change (dirty_at (used cache u)) (dirty_at cache) at cache_lines inside (λ k ne. ap is_dirty (get_or-set_other cache.lines at k new None ne)) in
-    sums (hits cache u.line) (is_dirty (held cache u.line)) u.store (dirty_count (used cache u)) (dirty_count cache) (change ∙ ap (λ b. dirty_count cache + weigh b) there)
+    sums (hits cache u.line) (is_dirty (held cache u.line)) u.store (dirty_count (used cache u)) (dirty_count cache) (change ∙ ap (λ b. dirty_count cache + weight b 1) there)
 
 -- the places below a number that are dirty are as many as the dirty lines before it
 counted : (lines : List (Option Line)) (n : ℕ) → n ≤ length lines → count (λ at. is_dirty (get_or lines at None)) n ≡ count_by is_dirty (take n lines)
@@ -59,22 +59,22 @@ dirty_counted cache whole =
     counted cache.lines cache_lines (omega (arith, whole)) ∙ ap (count_by is_dirty) (take_all cache_lines cache.lines (omega (arith, whole)))
 
 -- one line
-same_line : (dirty store : Bool) → weigh (dirty && false) + weigh (dirty || store) ≡ weigh (store && not dirty) + weigh dirty
+same_line : (dirty store : Bool) → weight (dirty && false) 1 + weight (dirty || store) 1 ≡ weight (store && not dirty) 1 + weight dirty 1
 same_line true true = refl
 same_line true false = refl
 same_line false true = refl
 same_line false false = refl
 
-away_line : (dirty other : Bool) → weigh (dirty && false) + weigh dirty ≡ weigh (false && other) + weigh dirty
+away_line : (dirty other : Bool) → weight (dirty && false) 1 + weight dirty 1 ≡ weight (false && other) 1 + weight dirty 1
 away_line true other = refl
 away_line false other = refl
 
-gone_line : (dirty other : Bool) → weigh (dirty && true) + weigh false ≡ weigh (false && other) + weigh dirty
+gone_line : (dirty other : Bool) → weight (dirty && true) 1 + weight false 1 ≡ weight (false && other) 1 + weight dirty 1
 gone_line true other = refl
 gone_line false other = refl
 
 one_line : (line : ℕ) (cache : Cache) (u : Use) → Whole cache →
-    weigh (drives_out_line line cache u) + weigh (dirty_in (used cache u) line) ≡ weigh (makes_line_dirty line cache u) + weigh (dirty_in cache line)
+    weight (drives_out_line line cache u) 1 + weight (dirty_in (used cache u) line) 1 ≡ weight (makes_line_dirty line cache u) 1 + weight (dirty_in cache line) 1
 one_line line cache u whole = elim (meets u.line line) [
   | inl e ↦
       let is : eqb u.line line ≡ true = eq-eqb u.line line e in
@@ -96,7 +96,7 @@ one_line line cache u whole = elim (meets u.line line) [
 ]
 
 -- cycles
-priced : (hit dirty : Bool) → cond hit 0 (miss + cond dirty write_back 0) ≡ miss * weigh (not hit) + write_back * weigh (not hit && dirty)
+priced : (hit dirty : Bool) → cond hit 0 (miss + cond dirty write_back 0) ≡ miss * weight (not hit) 1 + write_back * weight (not hit && dirty) 1
 priced true dirty = refl
 priced false true = refl
 priced false false = refl
@@ -116,5 +116,5 @@ charges row = record {
   in_all = omega (arith, balanced drives_out makes_dirty dirty_count all_lines row empty_cache whole_empty, none_dirty);
   of_each = λ line.
       let none : dirty_in empty_cache line ≡ false = ap (λ o. has_tag (tag_of line) o && is_dirty o) (held_empty line) in
-      omega (arith, balanced (drives_out_line line) (makes_line_dirty line) (λ cache. weigh (dirty_in cache line)) (one_line line) row empty_cache whole_empty, ap weigh none);
+      omega (arith, balanced (drives_out_line line) (makes_line_dirty line) (λ cache. weight (dirty_in cache line) 1) (one_line line) row empty_cache whole_empty, ap (λ b. weight b 1) none);
 }

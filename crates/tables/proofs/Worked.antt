@@ -1,3 +1,4 @@
+-- The store and the two loads, worked out.
 use Rattle.std.proofs.Common.{refl}
 use Rattle.paging.specs.Entries.{flag}
 use Rattle.paging.specs.Walks.{walked}

@@ -4,6 +4,7 @@ use Rattle.words.specs.Costs.{instruction, miss, page_walk, write_back}
 use Rattle.words.specs.Frames.{written}
 use Rattle.paging.specs.declared.access.Access.{Access}
 use Rattle.paging.specs.declared.access.Access.TheVariants.{Fetch, Load, Store}
+use Rattle.paging.specs.Accesses.{place_in}
 use Rattle.paging.specs.Walks.{walked}
 use Rattle.tables.specs.declared.Tables.{Tables}
 use Rattle.tables.specs.declared.tlb.Lookup.{Lookup}
@@ -18,7 +19,7 @@ abbrev pub lookup : Tables → Access → ℕ → Lookup
 lookup tables access address = found tables.tlb (address / 4096) access (walked four_frames 0 (address / 4096))
 
 abbrev pub line_at : Lookup → ℕ → ℕ
-line_at answer address = line_of (record { frame = unwrap_or answer.frame 0; offset = address % 4096 })
+line_at answer address = line_of (place_in (unwrap_or answer.frame 0) address)
 
 -- the cycles of a load or store whose code page is known, and the tables after it
 abbrev pub cycles : Tables → Access → ℕ → ℕ

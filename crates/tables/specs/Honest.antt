@@ -4,7 +4,7 @@ use Rattle.std.specs.List.{AllByRecursion}
 use Rattle.paging.specs.declared.access.Access.{Access}
 use Rattle.paging.specs.declared.translate.PageFault.{PageFault}
 use Rattle.paging.specs.declared.translate.Place.{Place}
-use Rattle.paging.specs.Accesses.{page_fault}
+use Rattle.paging.specs.Accesses.{page_fault, place_in}
 use Rattle.paging.specs.Walks.{translated, walked}
 use Rattle.tables.specs.declared.tlb.Lookup.{Lookup}
 use Rattle.tables.specs.declared.tlb.Tlb.{Tlb}
@@ -22,7 +22,7 @@ Honest tlb words root = AllByRecursion (TrueEntry words root) tlb.entries
 -- the place that a look-up gives for an address in its page, or the fault
 abbrev pub reached_in : Option ℕ → ℕ → Access → Result Place PageFault
 reached_in None address access = Err (page_fault access)
-reached_in (Some frame) address access = Ok (record { frame = frame; offset = address % 4096 })
+reached_in (Some frame) address access = Ok (place_in frame address)
 
 abbrev pub reached : Lookup → ℕ → Access → Result Place PageFault
 reached lookup address access = reached_in lookup.frame address access

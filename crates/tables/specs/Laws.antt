@@ -1,7 +1,8 @@
 -- What the definitions of this crate come to.
-use Rattle.std.specs.Prelude.{◌≡◌, ℕ, ◌+◌, ◌*◌, ◌≤◌, Bool, true, false, cond, ◌⊎◌, List, length, replicate, is_some, None, Decides, Option, ◌≢◌}
+use Rattle.std.specs.Prelude.{◌≡◌, ℕ, ◌+◌, ◌*◌, ◌/◌, ◌%◌, ◌≤◌, Bool, true, false, cond, ◌⊎◌, List, length, replicate, is_some, None, Decides, Option, ◌≢◌}
 use Rattle.std.specs.List.{AllByRecursion}
 use Rattle.words.specs.Costs.{highest, highest_branch, instruction, miss, misprediction, page_walk, write_back}
+use Rattle.words.specs.First.{weight}
 use Rattle.paging.specs.declared.access.Access.{Access}
 use Rattle.paging.specs.declared.leaf.Leaf.{Leaf}
 use Rattle.paging.specs.declared.translate.Place.{Place}
@@ -9,18 +10,26 @@ use Rattle.paging.specs.Walks.{walked}
 use Rattle.tables.specs.declared.cache.Cache.{Cache}
 use Rattle.tables.specs.declared.predictor.Predictor.{Predictor}
 use Rattle.tables.specs.declared.tlb.Tlb.{Tlb}
-use Rattle.tables.specs.Cache.{AtHand, access_cost, accessed, dirty_count, empty_cache, hits, line_of}
+use Rattle.tables.specs.Cache.{AtHand, access_cost, accessed, dirty_count, empty_cache, hits, line_of, place_of, tag_of}
 use Rattle.tables.specs.History.{Costs, Resident, Stored}
 use Rattle.tables.specs.Honest.{Honest, Truthful}
 use Rattle.tables.specs.Predictor.{branch_cost, first_predictor, learned}
 use Rattle.tables.specs.Loops.{Branch, Taken, loop_cost}
-use Rattle.tables.specs.Rows.{Use, Whole, after, brings_in, dirty_in, drives_out, drives_out_line, makes_dirty, makes_line_dirty, row_cost, times, weigh}
+use Rattle.tables.specs.Rows.{Use, Whole, after, brings_in, dirty_in, drives_out, drives_out_line, makes_dirty, makes_line_dirty, row_cost, times}
 use Rattle.tables.specs.Tlb.{empty_tlb, filled, found, known}
 
 -- an access costs nothing, a miss, or a miss and a write-back
 abbrev pub AccessCosts : Type 0
 AccessCosts = (cache : Cache) (line : ℕ) →
     (access_cost cache line ≡ 0) ⊎ ((access_cost cache line ≡ miss) ⊎ (access_cost cache line ≡ miss + write_back))
+
+-- a frame has as many lines as the cache, so a line's place in the cache is its place in its frame, and its tag is the frame
+pub record LineOfFrame (place : Place) : Type 0 where
+  pub at : place_of (line_of place) ≡ place.offset % 4096 / 64
+  pub tag : tag_of (line_of place) ≡ place.frame
+
+abbrev pub FrameIsTag : Type 0
+FrameIsTag = (place : Place) → LineOfFrame place
 
 -- after an access its line is in the cache, and another access to it at once costs nothing
 abbrev pub ComesIn : Type 0
@@ -41,7 +50,7 @@ pub record Charged (row : List Use) : Type 0 where
   pub cycles : row_cost empty_cache row ≡ miss * times brings_in empty_cache row + write_back * times drives_out empty_cache row
   pub in_all : times drives_out empty_cache row + dirty_count (after empty_cache row) ≡ times makes_dirty empty_cache row
   pub of_each : (line : ℕ) →
-      times (drives_out_line line) empty_cache row + weigh (dirty_in (after empty_cache row) line) ≡ times (makes_line_dirty line) empty_cache row
+      times (drives_out_line line) empty_cache row + weight (dirty_in (after empty_cache row) line) 1 ≡ times (makes_line_dirty line) empty_cache row
 
 abbrev pub Charges : Type 0
 Charges = (row : List Use) → Charged row

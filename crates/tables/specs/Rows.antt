@@ -1,6 +1,7 @@
 -- Rows of loads and stores, one after the other, and what is charged for them.
-use Rattle.std.specs.Prelude.{◌≡◌, ℕ, ◌+◌, Bool, cond, not, ◌&&◌, List, [], ◌∷◌, length, ◌==◌}
+use Rattle.std.specs.Prelude.{◌≡◌, ℕ, ◌+◌, Bool, not, ◌&&◌, List, [], ◌∷◌, length, ◌==◌}
 use Rattle.words.specs.Costs.{cache_lines}
+use Rattle.words.specs.First.{weight}
 use Rattle.tables.specs.declared.cache.Cache.{Cache}
 use Rattle.tables.specs.Cache.{access_cost, accessed, held, hits, is_dirty, place_of}
 
@@ -26,13 +27,10 @@ unfoldable pub row_cost : Cache → List Use → ℕ
 row_cost cache [] = 0
 row_cost cache (u ∷ row) = access_cost cache u.line + row_cost (used cache u) row
 
-abbrev pub weigh : Bool → ℕ
-weigh b = cond b 1 0
-
 -- how often something happens in a row; the test is asked of each access and of the cache that it meets
 unfoldable pub times : (Cache → Use → Bool) → Cache → List Use → ℕ
 times test cache [] = 0
-times test cache (u ∷ row) = weigh (test cache u) + times test (used cache u) row
+times test cache (u ∷ row) = weight (test cache u) 1 + times test (used cache u) row
 
 -- a line of memory is in the cache, and dirty
 abbrev pub dirty_in : Cache → ℕ → Bool

@@ -1,9 +1,10 @@
 // What the definitions of this crate come to, owed by this function's contract.
 ghost use Rattle.tables.specs.Example.{Example};
-ghost use Rattle.tables.specs.Laws.{AccessCosts, Charges, ComesIn, CountersStay, FramesConflict, Highest, Honesty, LookUps, LoopsPredicted, Remembers, WriteBacks};
+ghost use Rattle.tables.specs.Laws.{AccessCosts, Charges, ComesIn, CountersStay, FrameIsTag, FramesConflict, Highest, Honesty, LookUps, LoopsPredicted, Remembers, WriteBacks};
 
 pub fn laws()
     ensures costs { AccessCosts }
+    ensures tags { FrameIsTag }
     ensures hits { ComesIn }
     ensures rows { Remembers }
     ensures charges { Charges }

@@ -1,13 +1,14 @@
 -- Laws of the questions over the places below a number.
 use Rattle.std.proofs.Common.{◌≡◌, ℕ, zero, suc, ◌+◌, ◌<◌, ◌≤◌, max, Bool, true, false, cond, ◌||◌, ◌⊎◌, Some, None, Ok, Err, Option, sym, refl, ◌∙◌, inl, inr, add-one, arith}
 use Rattle.std.proofs.lemmas.Bool.{cases_lt, cases_Bool, or_left, or_right, or_cases, or_from, true≢false}
-use Rattle.words.specs.First.{first, any, count, most, or_else, unless}
+use Rattle.std.specs.Option.{option_or}
+use Rattle.words.specs.First.{first, any, count, most, unless}
 
-pub or_none : {X : Type 0} (o q : Option X) → or_else o q ≡ None → (o ≡ None) × (q ≡ None)
+pub or_none : {X : Type 0} (o q : Option X) → option_or o q ≡ None → (o ≡ None) × (q ≡ None)
 or_none None q e = (refl, e)
 or_none (Some x) q e = absurd (let z : ◌≡◌ {A = ℕ} 0 1 = cc in omega arith)
 
-pub or_some : {X : Type 0} (o q : Option X) (x : X) → or_else o q ≡ Some x → (o ≡ Some x) ⊎ ((o ≡ None) × (q ≡ Some x))
+pub or_some : {X : Type 0} (o q : Option X) (x : X) → option_or o q ≡ Some x → (o ≡ Some x) ⊎ ((o ≡ None) × (q ≡ Some x))
 or_some None q x e = inr (refl, e)
 or_some (Some y) q x e = inl e
 

@@ -39,6 +39,7 @@ pub enum Event {
     CopiedWord,
     // and what is computed from these
     HighestInstruction,
+    HighestBranch,
     Switch,
     Message,
 }
@@ -55,6 +56,7 @@ pub fn cost_of(event: Event) -> u32
         Event::Misprediction => MISPREDICTION,
         Event::CopiedWord => COPIED_WORD,
         Event::HighestInstruction => HIGHEST,
+        Event::HighestBranch => HIGHEST_BRANCH,
         Event::Switch => SWITCH,
         Event::Message => MESSAGE,
     }

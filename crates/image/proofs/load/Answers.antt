@@ -1,3 +1,4 @@
+-- What is left to show of `load`.
 use Rattle.std.proofs.Common.{◌*◌, rules, arith}
 use Rattle.std.proofs.lemmas.Iterator.{YieldsList-from_range, YieldsList-from_map, items_from_collect}
 use Rattle.image.specs.Frames.{image_word, image_words, lent_frames}

@@ -1,3 +1,4 @@
+-- What is left to show of `operations`.
 use Rattle.isa.proofs.Computing.{undoes, orders, rounds_down}
 use Rattle.isa.proofs.laws.operations.Goals as goal
 

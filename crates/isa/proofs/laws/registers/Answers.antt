@@ -1,3 +1,4 @@
+-- What is left to show of `registers`.
 use Rattle.isa.proofs.Holding.{zero_holds, starts, writes}
 use Rattle.isa.proofs.laws.registers.Goals as goal
 

@@ -1,3 +1,4 @@
+-- What is left to show of `laws`.
 use Rattle.paging.proofs.Agree.{leaves_named, local, one_leaf, pages_end, tables_decide, walks_find, writes_apart}
 use Rattle.paging.proofs.Sum.{entries_add_up}
 use Rattle.paging.proofs.Worked.{worked}

@@ -1,3 +1,4 @@
+-- What is left to show of `rows_in`.
 use Rattle.std.proofs.Common.{◌+◌, ◌*◌, cond, ltb, rules}
 use Rattle.words.proofs.Chains.{array_from_calls}
 use Rattle.plan.specs.Format.{rows}

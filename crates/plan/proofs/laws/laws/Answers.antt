@@ -1,3 +1,4 @@
+-- What is left to show of `laws`.
 use Rattle.plan.proofs.Front.{front_tells_all, tells_all}
 use Rattle.plan.proofs.Stages.{named}
 use Rattle.plan.proofs.Times.{bounded, lawful_bounded, on_time, rounds}

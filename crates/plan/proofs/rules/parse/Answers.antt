@@ -1,3 +1,4 @@
+-- What is left to show of `parse`.
 use Rattle.std.proofs.Common.{rules}
 use Rattle.plan.specs.Rules.{parsed}
 use Rattle.plan.proofs.Judged.{judged_as}

@@ -1,4 +1,5 @@
-use Rattle.tables.proofs.Lines.{access_costs, comes_in, frames_conflict}
+-- What is left to show of `laws`.
+use Rattle.tables.proofs.Lines.{access_costs, comes_in, frame_is_tag, frames_conflict}
 use Rattle.tables.proofs.Sums.{charges}
 use Rattle.tables.proofs.Told.{remembers, write_backs}
 use Rattle.tables.proofs.Truth.{highest_costs, honesty, look_ups}
@@ -9,6 +10,7 @@ use Rattle.tables.proofs.laws.laws.Goals as goal
 pub returns : goal.returns
 returns c = record {
   costs = access_costs;
+  tags = frame_is_tag;
   hits = comes_in;
   rows = remembers;
   charges = charges;

@@ -1,3 +1,4 @@
+-- What is left to show of `low_bits`.
 use Rattle.std.proofs.Common.{◌^◌, ◌<◌, ◌≤◌, sym, mod-eq_of_lt, arith, pow_mono}
 use Rattle.std.proofs.lemmas.Nat.{one_shl, and_mask}
 use Rattle.words.proofs.bits.low_bits.Goals as goal

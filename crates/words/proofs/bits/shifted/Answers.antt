@@ -1,3 +1,4 @@
+-- What is left to show of `shifted`.
 use Rattle.std.proofs.Common.{◌≡◌, ℕ, ◌/◌, ◌^◌, ◌<◌, ◌≤◌, ◌∙◌, sym, Option, Some, None, arith, pow_mono}
 use native.Mathlib.Nat.{div-eq_of_lt}
 use Rattle.std.specs.Option.{SomeIff, unwrap_or}

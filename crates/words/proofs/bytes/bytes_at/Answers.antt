@@ -1,3 +1,4 @@
+-- What is left to show of `bytes_at`.
 use Rattle.std.proofs.Common.{◌≡◌, ◌+◌, ◌-◌, ◌^◌, ◌∙◌, min, rules, arith}
 use Rattle.words.specs.Bytes.{byte}
 use Rattle.words.proofs.Chains.{array_from_calls}

@@ -1,3 +1,4 @@
+-- What is left to show of `replace`.
 use Rattle.std.proofs.Common.{◌+◌, ◌-◌, ◌*◌, arith}
 use Rattle.std.proofs.lemmas.Slice.{put_mid-paste}
 use Rattle.words.proofs.frames.replace.Goals as goal

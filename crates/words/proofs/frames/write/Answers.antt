@@ -1,3 +1,4 @@
+-- What is left to show of `write`.
 use Rattle.std.proofs.Common.{◌+◌, ◌*◌, sym, arith}
 use Rattle.std.proofs.lemmas.List.{set_past}
 use Rattle.words.proofs.frames.write.Goals as goal

@@ -1,3 +1,4 @@
+-- What is left to show of `laws`.
 use Rattle.words.proofs.Numbers.{low_byte_first}
 use Rattle.words.proofs.Frame.{reads_back, copies}
 use Rattle.words.proofs.Signs.{fields_join, signs}

@@ -1,3 +1,4 @@
+-- What is left to show of `Plan::channels_out`.
 use Rattle.std.proofs.Common.{rules}
 use borrow.Author.Tests.{tests}
 use Rattle.words.proofs.Chains.{count_over_range}

@@ -1,3 +1,4 @@
+-- What is left to show of `Plan::most_channels_out`.
 use Rattle.std.proofs.Common.{rules}
 use Rattle.words.proofs.Chains.{most_over_range}
 use Rattle.plan.specs.Rules.{channels_out}

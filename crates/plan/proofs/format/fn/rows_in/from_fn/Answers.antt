@@ -1,3 +1,4 @@
+-- What is left to show of the closure of `rows_in`.
 use Rattle.std.proofs.Common.{ℕ, ◌+◌, ◌*◌, ◌≤◌, ◌<◌, arith}
 use Rattle.std.proofs.Math.Nat.{mul-le-mul}
 use Rattle.plan.proofs.format.fn.rows_in.from_fn.Goals as goal
