@@ -1,5 +1,5 @@
 -- A TLB that answers as a walk would keeps doing so.
-use Rattle.std.proofs.Common.{◌≡◌, ℕ, ◌/◌, ◌%◌, List, Some, None, Option, inl, inr}
+use Rattle.std.proofs.Common.{ℕ, ◌/◌, ◌%◌, List, Some, None, Option, inl, inr}
 use Rattle.std.proofs.lemmas.Bool.{cases_Bool}
 use Rattle.words.specs.Frames.{word}
 use Rattle.isa.specs.declared.register.Register.{Register}
