@@ -3,11 +3,11 @@ use Rattle.std.proofs.Common.{refl}
 use Rattle.paging.specs.Entries.{flag}
 use Rattle.paging.specs.Walks.{walked}
 use Rattle.tables.specs.Tlb.{found, filled}
-use Rattle.hart.specs.Core.{executed, fetch_ran, word_ran, load_ran, stepped}
+use Rattle.hart.specs.Core.{executed, fetch_ran, word_ran, load_ran, store_ran, stepped}
 use Rattle.hart.specs.Clocked.{Clocked, after}
 
 pub worked : Clocked
-unfolding flag walked found filled executed fetch_ran word_ran load_ran stepped after
+unfolding flag walked found filled executed fetch_ran word_ran load_ran store_ran stepped after
 worked = record {
   first_read = refl;
   load_ends = refl;
@@ -18,4 +18,6 @@ worked = record {
   not_taken = refl;
   falls_through = refl;
   rounds = refl;
+  most = refl;
+  in_all = refl;
 }
