@@ -39,6 +39,7 @@ module _ (ws vs : List ℕ) (root : ℕ) (own : SameOwn ws vs root) where
     cost : r.cost ≡ s.cost
     words : (frame k : ℕ) → word vs frame k ≡ word ws frame k → word r.words frame k ≡ word s.words frame k
 
+  -- where nothing is written
   same_words : (frame k : ℕ) → word vs frame k ≡ word ws frame k → word vs frame k ≡ word ws frame k
   same_words frame k e = e
 

@@ -1,4 +1,4 @@
--- What instructions cost: a program that reads the clock around its loads, and branches alone.
+-- What instructions cost: a program that reads the clock around its loads, branches alone, and the dearest load.
 use Rattle.std.specs.Prelude.{◌≡◌, ℕ, zero, suc, ◌+◌, List, replicate}
 use Rattle.words.specs.Frames.{written}
 use Rattle.isa.specs.Registers.{held, register}
