@@ -9,7 +9,9 @@ use Rattle.isa.specs.Decoding.{decoded}
 use Rattle.paging.specs.declared.access.Access.{Access}
 use Rattle.paging.specs.declared.access.Access.TheVariants.{Fetch, Load, Store}
 use Rattle.paging.specs.Accesses.{page_fault}
+use Rattle.paging.specs.Mapping.{Reaches}
 use Rattle.paging.specs.Walks.{translated}
+use Rattle.paging.proofs.Reached.{translates}
 use Rattle.tables.specs.declared.Tables.{Tables}
 use Rattle.tables.specs.Honest.{Honest, reached, reached_in}
 use Rattle.tables.proofs.Truth.{honesty}
@@ -41,6 +43,12 @@ module _ (t : Tables) (ws : List ℕ) (root : ℕ) (h : Honest t.tlb ws root) wh
   pub granted : (address : ℕ) (access : Access) (frame : ℕ) → (looked_up t ws root address access).frame ≡ Some frame →
       translated ws root address access ≡ Ok (place_in frame address)
   granted address access frame e = sym (truth address access) ∙ ap (λ o. reached_in o address access) e
+
+  -- that place lies in a frame that a page of the root maps to
+  pub found_reaches : (address : ℕ) (access : Access) (frame : ℕ) → (looked_up t ws root address access).frame ≡ Some frame →
+      Reaches ws root address access (place_in frame address)
+  found_reaches address access frame e =
+      (translates ws root address access (translated ws root address access) refl).reaches (place_in frame address) (granted address access frame e)
 
   denied : (address : ℕ) (access : Access) → (looked_up t ws root address access).frame ≡ None → translated ws root address access ≡ Err (page_fault access)
   denied address access e = sym (truth address access) ∙ ap (λ o. reached_in o address access) e

@@ -8,3 +8,4 @@ pub mod Stepping
 pub mod Writing
 pub mod Staying
 pub mod Worked
+pub mod Instance

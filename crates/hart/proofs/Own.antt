@@ -1,5 +1,5 @@
 -- What a program does depends on no other memory than that of its root.
-use Rattle.std.proofs.Common.{◌≡◌, ℕ, ◌+◌, ◌*◌, ◌/◌, ◌%◌, ◌<◌, ◌≤◌, true, ◌⊎◌, List, length, Some, None, Option, sym, refl, ap, ◌∙◌, subst, inl, inr, arith}
+use Rattle.std.proofs.Common.{◌≡◌, ℕ, ◌+◌, ◌*◌, ◌/◌, ◌%◌, ◌<◌, true, List, length, Some, None, Option, sym, refl, ap, ◌∙◌, inl, inr, arith}
 use Rattle.std.proofs.lemmas.List.{get_or-set_other, get_or-set_same}
 use Rattle.std.proofs.lemmas.Bool.{cases_Bool, cases_eq, lt-ltb}
 use Rattle.words.specs.Frames.{lent, word, written}
@@ -11,10 +11,11 @@ use Rattle.isa.specs.declared.instruction.StoreWidth.{StoreWidth}
 use Rattle.isa.specs.Decoding.{decoded}
 use Rattle.paging.specs.declared.access.Access.{Access}
 use Rattle.paging.specs.declared.access.Access.TheVariants.{Fetch, Load, Store}
-use Rattle.paging.specs.Tables.{KernelFrame, Names}
-use Rattle.paging.specs.Walks.{translated, walked}
+use Rattle.paging.specs.declared.leaf.Leaf.{Leaf}
+use Rattle.paging.specs.declared.translate.Place.{Place}
+use Rattle.paging.specs.Mapping.{Maps, Reaches}
+use Rattle.paging.specs.Walks.{walked}
 use Rattle.paging.proofs.Agree.{leaves_named, tables_decide}
-use Rattle.paging.proofs.Reached.{translates}
 use Rattle.tables.specs.declared.Tables.{Tables}
 use Rattle.tables.specs.Honest.{Honest}
 use Rattle.tables.proofs.Truth.{honesty}
@@ -23,65 +24,50 @@ use Rattle.hart.specs.declared.context.State.TheVariants.{Ready, Stopped}
 use Rattle.hart.specs.declared.context.Context.{Context}
 use Rattle.hart.specs.Memory.{is_aligned, load_bytes, store_bytes}
 use Rattle.hart.specs.Execution.{Doing, sets, jumps, branches, loads, stores, doing}
-use Rattle.hart.specs.Core.{Ran, executed, fetch_ran, word_ran, decoded_ran, load_ran, store_ran, stepped, stepped_by, looked_up, after_lookup, place_in}
+use Rattle.hart.specs.Core.{Ran, executed, fetch_ran, word_ran, decoded_ran, load_ran, store_ran, stepped, stepped_by, looked_up, after_lookup}
 use Rattle.hart.specs.Laws.{SameOwn, SeesOwn}
-use Rattle.hart.proofs.Agreeing.{found_or_not, granted}
-
--- a frame that an access reaches: the tables name it, and it is lent
-record OwnFrame (ws : List ℕ) (root frame : ℕ) : Type 0 where
-  named : Names ws root frame
-  room : frame * 1024 + 1024 ≤ length ws
-
-own_frame : (t : Tables) (ws : List ℕ) (root : ℕ) → Honest t.tlb ws root → (address : ℕ) (access : Access) →
-    (frame : ℕ) → (looked_up t ws root address access).frame ≡ Some frame → OwnFrame ws root frame
-own_frame t ws root h address access frame e =
-    let r = (translates ws root address access (translated ws root address access) refl).reaches (place_in frame address) (granted t ws root h address access frame e) in
-    let there = r.maps.frame_there.lent in
-    record {
-      named = subst (Names ws root) (sym r.frame) (leaves_named ws root r.page r.leaf r.maps);
-      room = omega (arith, r.frame, there);
-    }
+use Rattle.hart.proofs.Agreeing.{found_or_not, found_reaches}
 
 module _ (ws vs : List ℕ) (root : ℕ) (own : SameOwn ws vs root) where
   walks : (page : ℕ) → walked vs root page ≡ walked ws root page
   walks = (tables_decide ws vs root own.tables).walks own.lent
-
-  Concerned : ℕ → Type 0
-  Concerned frame = KernelFrame ws root frame ⊎ Names ws root frame
 
   -- what two runs of a step have in common
   record AlikeRan (r s : Ran) : Type 0 where
     context : r.context ≡ s.context
     tables : r.tables ≡ s.tables
     cost : r.cost ≡ s.cost
-    words : (frame k : ℕ) → KernelFrame ws root frame ⊎ Names ws root frame → k < 1024 → word r.words frame k ≡ word s.words frame k
+    words : (frame k : ℕ) → word vs frame k ≡ word ws frame k → word r.words frame k ≡ word s.words frame k
 
-  same_words : (frame k : ℕ) → KernelFrame ws root frame ⊎ Names ws root frame → k < 1024 → word vs frame k ≡ word ws frame k
-  same_words frame k (inl kernel) l = own.tables frame k kernel l
-  same_words frame k (inr names) l = own.named frame k names l
+  -- where nothing is written
+  same_words : (frame k : ℕ) → word vs frame k ≡ word ws frame k → word vs frame k ≡ word ws frame k
+  same_words frame k e = e
 
-  -- the same write to a frame of its own
-  same_written : (at offset value : ℕ) → OwnFrame ws root at → offset < 1024 → (frame k : ℕ) → KernelFrame ws root frame ⊎ Names ws root frame → k < 1024 →
-      word (written vs at offset value) frame k ≡ word (written ws at offset value) frame k
-  same_written at offset value o inside frame k c l =
-      let lent_here : lent ws at ≡ true = lt-ltb at (length ws / 1024) (omega (arith, o.room)) in
-      let room_there = lent_room vs at (own.lent at (inr o.named) ∙ lent_here) in
+  -- the word at an address that an access reaches
+  same_reached : (address : ℕ) (access : Access) (place : Place) → Reaches ws root address access place → word vs place.frame (address % 4096 / 4) ≡ word ws place.frame (address % 4096 / 4)
+  same_reached address access place r = rw r.frame (own.mapped r.page (address % 4096 / 4) r.leaf r.maps (omega arith))
+
+  -- the same write to a frame that a page maps to
+  same_written : (page offset value : ℕ) (leaf : Leaf) → Maps ws root page leaf → offset < 1024 → (frame k : ℕ) → word vs frame k ≡ word ws frame k →
+      word (written vs leaf.frame offset value) frame k ≡ word (written ws leaf.frame offset value) frame k
+  same_written page offset value leaf m inside frame k e =
+      let at = leaf.frame in
+      let here = m.frame_there.lent in
+      let lent_here : lent ws at ≡ true = lt-ltb at (length ws / 1024) (omega arith) in
+      let there = lent_room vs at (own.lent at (inr (leaves_named ws root page leaf m)) ∙ lent_here) in
       elim (cases_eq (frame * 1024 + k) (at * 1024 + offset)) [
-        | inl e ↦ rw e (get_or-set_same vs (at * 1024 + offset) value 0 (omega arith) ∙ sym (get_or-set_same ws (at * 1024 + offset) value 0 (omega (arith, o.room))))
-        | inr ne ↦ get_or-set_other vs (at * 1024 + offset) (frame * 1024 + k) value 0 ne ∙ same_words frame k c l ∙ sym (get_or-set_other ws (at * 1024 + offset) (frame * 1024 + k) value 0 ne)
+        | inl i ↦ rw i (get_or-set_same vs (at * 1024 + offset) value 0 (omega arith) ∙ sym (get_or-set_same ws (at * 1024 + offset) value 0 (omega arith)))
+        | inr ne ↦ get_or-set_other vs (at * 1024 + offset) (frame * 1024 + k) value 0 ne ∙ e ∙ sym (get_or-set_other ws (at * 1024 + offset) (frame * 1024 + k) value 0 ne)
       ]
 
   module _ (t : Tables) (h : Honest t.tlb ws root) where
-    here : (address : ℕ) → address % 4096 / 4 < 1024
-    here address = omega arith
-
     load_alike : (x : Context) (width : LoadWidth) (rd : Register) (address : ℕ) → AlikeRan (load_ran x t vs root width rd address) (load_ran x t ws root width rd address)
     unfolding load_ran
     load_alike x width rd address = elim (cases_Bool (is_aligned (load_bytes width) address)) [
       | inl a ↦ elim (found_or_not (looked_up t ws root address Load).frame) [
         | inl f ↦
-            let o = own_frame t ws root h address Load f.0 f.1 in
-            rw (walks (address / 4096), a, f.1, own.named f.0 (address % 4096 / 4) o.named (here address))
+            let r = found_reaches t ws root h address Load f.0 f.1 in
+            rw (walks (address / 4096), a, f.1, same_reached address Load _ r)
             (record { context = refl; tables = refl; cost = refl; words = same_words })
         | inr e ↦ rw (walks (address / 4096), a, e) (record { context = refl; tables = refl; cost = refl; words = same_words })
       ]
@@ -93,9 +79,9 @@ module _ (ws vs : List ℕ) (root : ℕ) (own : SameOwn ws vs root) where
     store_alike x width address value = elim (cases_Bool (is_aligned (store_bytes width) address)) [
       | inl a ↦ elim (found_or_not (looked_up t ws root address Store).frame) [
         | inl f ↦
-            let o = own_frame t ws root h address Store f.0 f.1 in
-            rw (walks (address / 4096), a, f.1, own.named f.0 (address % 4096 / 4) o.named (here address))
-            (record { context = refl; tables = refl; cost = refl; words = same_written f.0 (address % 4096 / 4) _ o (here address) })
+            let r = found_reaches t ws root h address Store f.0 f.1 in
+            rw (walks (address / 4096), a, f.1, same_reached address Store _ r)
+            (record { context = refl; tables = refl; cost = refl; words = rw r.frame (same_written r.page (address % 4096 / 4) _ r.leaf r.maps (omega arith)) })
         | inr e ↦ rw (walks (address / 4096), a, e) (record { context = refl; tables = refl; cost = refl; words = same_words })
       ]
       | inr a ↦ rw a (record { context = refl; tables = refl; cost = refl; words = same_words })
@@ -118,10 +104,10 @@ module _ (ws vs : List ℕ) (root : ℕ) (own : SameOwn ws vs root) where
     unfolding fetch_ran word_ran
     fetch_alike = elim (found_or_not (looked_up t ws root x.pc Fetch).frame) [
       | inl f ↦
-          let o = own_frame t ws root h x.pc Fetch f.0 f.1 in
+          let r = found_reaches t ws root h x.pc Fetch f.0 f.1 in
           let later = (honesty.find t.tlb ws root (x.pc / 4096) Fetch h).still in
           let rest = decoded_alike (after_lookup t ws root x.pc Fetch) later x clock (decoded (word ws f.0 (x.pc % 4096 / 4))) in
-          rw (walks (x.pc / 4096), f.1, own.named f.0 (x.pc % 4096 / 4) o.named (here t h x.pc))
+          rw (walks (x.pc / 4096), f.1, same_reached x.pc Fetch _ r)
           (record { context = rest.context; tables = rest.tables; cost = ap (λ c. 1 + (looked_up t ws root x.pc Fetch).cost + c) rest.cost; words = rest.words })
       | inr e ↦ rw (walks (x.pc / 4096), e) (record { context = refl; tables = refl; cost = refl; words = same_words })
     ]

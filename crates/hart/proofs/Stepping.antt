@@ -1,7 +1,7 @@
 -- What a step keeps, with any tables.
 use Rattle.std.proofs.Common.{◌≡◌, ℕ, ◌+◌, ◌/◌, ◌%◌, ◌≤◌, Bool, true, false, eqb, ◌⊎◌, List, length, ℤ, Some, None, Option, unwrap_or, sym, refl, ap, ◌∙◌, inl, inr, arith}
 use Rattle.std.proofs.lemmas.List.{length-set, length-replicate}
-use Rattle.std.proofs.lemmas.Bool.{cases_Bool}
+use Rattle.std.proofs.lemmas.Bool.{cases_Bool, eqb-true}
 use Rattle.words.specs.Costs.{highest, highest_branch, instruction, misprediction, miss, page_walk, write_back}
 use Rattle.words.specs.Frames.{word}
 use Rattle.isa.specs.declared.register.Register.{Register}
@@ -25,13 +25,14 @@ use Rattle.tables.proofs.Lines.{whole_accessed, whole_empty}
 use Rattle.tables.proofs.Truth.{access_at_most, carried_cost}
 use Rattle.tables.proofs.Turns.{counters_stay}
 use Rattle.hart.specs.declared.cause.Cause.{Cause}
+use Rattle.hart.specs.declared.cause.Cause.TheVariants.{FetchMisaligned}
 use Rattle.hart.specs.declared.context.State.{State}
 use Rattle.hart.specs.declared.context.State.TheVariants.{Ready, Stopped}
 use Rattle.hart.specs.declared.context.Context.{Context}
 use Rattle.hart.specs.Memory.{is_aligned, load_bytes, store_bytes}
-use Rattle.hart.specs.Execution.{Doing, sets, jumps, branches, loads, stores, doing, misses_target, stopped}
+use Rattle.hart.specs.Execution.{Doing, sets, jumps, branches, loads, stores, branch_context, doing, goes_on, jumped, misses_target, next_pc, register_set, stopped}
 use Rattle.hart.specs.Core.{Ran, executed, fetch_ran, word_ran, decoded_ran, load_ran, store_ran, ran, stepped, stepped_by, looked_up, after_lookup, place_in}
-use Rattle.hart.specs.Steps.{StayWhole, Steps, Stops, WholeTables, fetched}
+use Rattle.hart.specs.Steps.{SetOne, StayWhole, Steps, Stops, WholeTables, fetched}
 use Rattle.hart.proofs.Agreeing.{found_or_not}
 
 -- the TLB keeps its entries
@@ -51,11 +52,43 @@ filled_length tlb page access walk = filled_by_length tlb page access (known tlb
 apart : (s : State) (cause : Cause) (pc : ℕ) → s ≡ Ready → s ≡ Stopped cause pc → ⊥
 apart s cause pc ready stopped = let z : ◌≡◌ {A = ℕ} 0 1 = cc in omega arith
 
+-- what becomes of registers and counter
+record Moves (x y : Context) : Type 0 where
+  one_register : (y.registers ≡ x.registers) ⊎ SetOne x.registers y.registers
+  counter : x.pc % 4 ≡ 0 → y.pc % 4 ≡ 0
+
+module _ (x : Context) where
+  stop_moves : (cause : Cause) → Moves x (stopped x cause)
+  stop_moves cause = record { one_register = inl refl; counter = λ e. e }
+
+  next_counter : x.pc % 4 ≡ 0 → next_pc x % 4 ≡ 0
+  next_counter e = omega arith
+
+  set_moves : (rd : Register) (value : ℕ) → Moves x (register_set x rd value)
+  set_moves rd value = record { one_register = inr (record { register = rd; value = value; set = refl }); counter = next_counter }
+
+  next_moves : Moves x (goes_on x (next_pc x))
+  next_moves = record { one_register = inl refl; counter = next_counter }
+
+  jump_moves : (rd : Register) (target : ℕ) → Moves x (jumped x rd target)
+  jump_moves rd target = elim (cases_Bool (eqb (target % 4) 0)) [
+    | inl e ↦ rw e (record { one_register = inr (record { register = rd; value = next_pc x; set = refl }); counter = λ _. eqb-true (target % 4) 0 e })
+    | inr e ↦ rw e (stop_moves FetchMisaligned)
+  ]
+
+  branch_moves : (taken : Bool) (target : ℕ) → Moves x (branch_context x taken target)
+  branch_moves false target = next_moves
+  branch_moves true target = elim (cases_Bool (eqb (target % 4) 0)) [
+    | inl e ↦ rw e (record { one_register = inl refl; counter = λ _. eqb-true (target % 4) 0 e })
+    | inr e ↦ rw e (stop_moves FetchMisaligned)
+  ]
+
 -- what is so of a step and of its parts
 record Kept (x : Context) (t : Tables) (ws : List ℕ) (bound : ℕ) (r : Ran) : Type 0 where
   as_many : length r.words ≡ length ws
   most : r.cost ≤ bound
   way : (r.context.state ≡ x.state) ⊎ Stops x ws r
+  moves : Moves x r.context
   whole : WholeTables t → WholeTables r.tables
 
 module _ (x : Context) (t : Tables) (ws : List ℕ) (root : ℕ) where
@@ -71,7 +104,7 @@ module _ (x : Context) (t : Tables) (ws : List ℕ) (root : ℕ) where
 
   -- stops with what a look-up cost, at most
   halts : (cause : Cause) (u : Tables) (cost bound : ℕ) → cost ≤ bound → (WholeTables t → WholeTables u) → Kept x t ws bound (ran (stopped x cause) u ws cost)
-  halts cause u cost bound most whole = record { as_many = refl; most = most; way = inr (record { cause = cause; context = refl; words = refl }); whole = whole }
+  halts cause u cost bound most whole = record { as_many = refl; most = most; way = inr (record { cause = cause; context = refl; words = refl }); moves = stop_moves x cause; whole = whole }
 
   load_kept : (width : LoadWidth) (rd : Register) (address : ℕ) → Kept x t ws (page_walk + miss + write_back) (load_ran x t ws root width rd address)
   unfolding load_ran
@@ -84,6 +117,7 @@ module _ (x : Context) (t : Tables) (ws : List ℕ) (root : ℕ) where
             as_many = refl;
             most = omega (arith, lookup_most address Load, access_at_most after.cache line);
             way = inl refl;
+            moves = set_moves x rd _;
             whole = λ w. let v = lookup_whole address Load w in record { cache = whole_accessed after.cache line false v.cache; tlb = v.tlb; predictor = v.predictor };
           })
       | inr e ↦ rw (a, e) (halts _ (after_lookup t ws root address Load) _ _ (omega (arith, lookup_most address Load)) (lookup_whole address Load))
@@ -102,6 +136,7 @@ module _ (x : Context) (t : Tables) (ws : List ℕ) (root : ℕ) where
             as_many = length-set ws _ _;
             most = omega (arith, lookup_most address Store, access_at_most after.cache line);
             way = inl refl;
+            moves = next_moves x;
             whole = λ w. let v = lookup_whole address Store w in record { cache = whole_accessed after.cache line true v.cache; tlb = v.tlb; predictor = v.predictor };
           })
       | inr e ↦ rw (a, e) (halts _ (after_lookup t ws root address Store) _ _ (omega (arith, lookup_most address Store)) (lookup_whole address Store))
@@ -120,18 +155,19 @@ module _ (x : Context) (t : Tables) (ws : List ℕ) (root : ℕ) where
       as_many = refl;
       most = wrong_most taken;
       way = inl refl;
+      moves = rw e at (branch_moves x taken target);
       whole = λ w. record { cache = w.cache; tlb = w.tlb; predictor = counters_stay.next t.predictor x.pc taken w.predictor };
     })
   ]
 
   executed_kept : (d : Doing) → Kept x t ws (page_walk + miss + write_back) (executed x t ws root d)
   unfolding executed
-  executed_kept (sets rd value) = record { as_many = refl; most = omega arith; way = inl refl; whole = λ w. w }
+  executed_kept (sets rd value) = record { as_many = refl; most = omega arith; way = inl refl; moves = set_moves x rd value; whole = λ w. w }
   executed_kept (jumps rd target) = elim (cases_Bool (eqb (target % 4) 0)) [
-    | inl e ↦ rw e (record { as_many = refl; most = omega arith; way = inl refl; whole = λ w. w })
+    | inl e ↦ rw e (record { as_many = refl; most = omega arith; way = inl refl; moves = rw e at (jump_moves x rd target); whole = λ w. w })
     | inr e ↦ rw e (halts _ t 0 _ (omega arith) (λ w. w))
   ]
-  executed_kept (branches taken target) = let b = branch_kept taken target in record { as_many = b.as_many; most = omega (arith, b.most); way = b.way; whole = b.whole }
+  executed_kept (branches taken target) = let b = branch_kept taken target in record { as_many = b.as_many; most = omega (arith, b.most); way = b.way; moves = b.moves; whole = b.whole }
   executed_kept (loads width rd address) = load_kept width rd address
   executed_kept (stores width address value) = store_kept width address value
 
@@ -153,6 +189,7 @@ module _ (x : Context) (t : Tables) (ws : List ℕ) (root clock : ℕ) where
       as_many = rest.as_many;
       most = omega (arith, lookup_most x t ws root x.pc Fetch, rest.most);
       way = elim rest.way [ inl same ↦ inl same | inr s ↦ inr (record { cause = s.cause; context = s.context; words = s.words }) ];
+      moves = record { one_register = rest.moves.one_register; counter = rest.moves.counter };
       whole = λ w. rest.whole (lookup_whole x t ws root x.pc Fetch w);
     })
     | inr e ↦ rw e (halts x t ws root _ (after_lookup t ws root x.pc Fetch) _ _ (omega (arith, lookup_most x t ws root x.pc Fetch)) (lookup_whole x t ws root x.pc Fetch))
@@ -187,6 +224,7 @@ module _ (x : Context) (t : Tables) (ws : List ℕ) (root clock : ℕ) where
     least : instruction ≤ r.cost
     most : r.cost ≤ highest
     branch : (condition : Condition) (left right : Register) (offset : ℤ) → decoded (fetched x t ws root) ≡ Some (Branch condition left right offset) → r.cost ≤ highest_branch
+    moves : Moves x r.context
     ready : s ≡ Ready → (r.context.state ≡ x.state) ⊎ Stops x ws r
     rests : (cause : Cause) (pc : ℕ) → s ≡ Stopped cause pc → r ≡ ran x t ws instruction
 
@@ -196,6 +234,7 @@ module _ (x : Context) (t : Tables) (ws : List ℕ) (root clock : ℕ) where
     least = least_fetch;
     most = ready_kept.most;
     branch = branch_most;
+    moves = ready_kept.moves;
     ready = λ _. ready_kept.way;
     rests = λ cause pc e. absurd (apart Ready cause pc refl e);
   }
@@ -204,6 +243,7 @@ module _ (x : Context) (t : Tables) (ws : List ℕ) (root clock : ℕ) where
     least = omega arith;
     most = omega arith;
     branch = λ _ _ _ _ _. omega arith;
+    moves = record { one_register = inl refl; counter = λ e. e };
     ready = λ e. absurd (apart (Stopped cause pc) cause pc e refl);
     rests = λ _ _ _. refl;
   }
@@ -215,6 +255,8 @@ steps x t ws root clock = let s = by_state x t ws root clock x.state in record {
   least = s.least;
   most = s.most;
   branch = s.branch;
+  one_register = s.moves.one_register;
+  counter = s.moves.counter;
   ready = λ e. elim (s.ready e) [ inl same ↦ inl (same ∙ e) | inr stops ↦ inr stops ];
   rests = s.rests;
 }

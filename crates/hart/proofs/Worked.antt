@@ -1,10 +1,23 @@
+-- The programs of Clocked, worked out.
 use Rattle.std.proofs.Common.{refl}
 use Rattle.paging.specs.Entries.{flag}
 use Rattle.paging.specs.Walks.{walked}
 use Rattle.tables.specs.Tlb.{found, filled}
-use Rattle.hart.specs.Core.{executed, fetch_ran, word_ran, load_ran, stepped}
+use Rattle.hart.specs.Core.{executed, fetch_ran, word_ran, load_ran, store_ran, stepped}
 use Rattle.hart.specs.Clocked.{Clocked, after}
 
 pub worked : Clocked
-unfolding flag walked found filled executed fetch_ran word_ran load_ran stepped after
-worked = record { first_read = refl; load_ends = refl; same_line = refl; next_line = refl }
+unfolding flag walked found filled executed fetch_ran word_ran load_ran store_ran stepped after
+worked = record {
+  first_read = refl;
+  load_ends = refl;
+  same_line = refl;
+  next_line = refl;
+  taken = refl;
+  goes_to = refl;
+  not_taken = refl;
+  falls_through = refl;
+  rounds = refl;
+  most = refl;
+  in_all = refl;
+}

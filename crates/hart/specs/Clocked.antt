@@ -1,9 +1,9 @@
--- A program that reads the clock around its loads: what each instruction costs, seen by the program itself.
+-- What instructions cost: a program that reads the clock around its loads, branches alone, and the dearest load.
 use Rattle.std.specs.Prelude.{◌≡◌, ℕ, zero, suc, ◌+◌, List, replicate}
 use Rattle.words.specs.Frames.{written}
-use Rattle.isa.specs.Registers.{blank, held, register}
+use Rattle.isa.specs.Registers.{held, register}
 use Rattle.tables.specs.First.{first_tables}
-use Rattle.hart.specs.declared.context.State.TheVariants.{Ready}
+use Rattle.hart.specs.Execution.{fresh}
 use Rattle.hart.specs.Core.{Ran, ran, stepped}
 
 -- a program that ran for some steps, and the clock
@@ -30,18 +30,41 @@ abbrev pub program : ℕ → List ℕ
 program fourth =
     written (written (written (written (written mapped 2 0 0x00011137) 2 1 0xC00022F3) 2 2 0x00012303) 2 3 fourth) 2 4 0xC0002473
 
+-- a fresh program in page 16
+abbrev pub begin : List ℕ → Moment
+begin words = record { at = ran (fresh 0x10000) first_tables words 0; clock = 0 }
+
 abbrev pub start : ℕ → Moment
-start fourth = record {
-  at = ran (record { registers = blank; pc = 0x10000; state = Ready }) first_tables (program fourth) 0;
-  clock = 0;
-}
+start fourth = begin (program fourth)
 
 abbrev pub register_after : ℕ → ℕ → ℕ → ℕ
 register_after fourth n r = held (after 0 n (start fourth)).at.context.registers (register r)
 
--- the first instruction costs 31, the first load 51, and a second load of the same line 1; one of the next line 21
+-- a program of one word, after some steps
+abbrev pub alone : ℕ → ℕ → Moment
+alone word n = after 0 n (begin (written mapped 2 0 word))
+
+-- the same memory with pages 18 and 19, which are frame 2 as well: LUI x2, 17; LUI x3, 19; SW x0, 0(x2);
+-- a JAL that goes on at the fifth word, by page 18; LW x6, 0(x3)
+abbrev pub four_pages : List ℕ
+four_pages = written (written mapped 1 18 0x8DB) 1 19 0x8DB
+
+abbrev pub dear : List ℕ
+dear = written (written (written (written (written four_pages 2 0 0x00011137) 2 1 0x000131B7) 2 2 0x00012023) 2 3 0x0040206F) 2 4 0x0001A303
+
+-- the first instruction costs 31, the first load 51, and a second load of the same line 1; one of the next line 21.
+-- A counter begins at 1, which predicts not taken: BEQ x0, x0, 8, which is taken, costs 3 besides, and BNE x0, x0, 8 nothing.
+-- BEQ x0, x0, 0 goes round on the spot, and from the second round on it is predicted.
+-- The most that an instruction can cost is met: a load whose code page, data page and line are missing, over a dirty line
 pub record Clocked : Type 0 where
   pub first_read : register_after 0x00012383 2 5 ≡ 31
   pub load_ends : (after 0 3 (start 0x00012383)).clock ≡ 83
   pub same_line : register_after 0x00012383 5 8 ≡ 84
   pub next_line : register_after 0x04012383 5 8 ≡ 104
+  pub taken : (alone 0x00000463 1).clock ≡ 34
+  pub goes_to : (alone 0x00000463 1).at.context.pc ≡ 0x10008
+  pub not_taken : (alone 0x00001463 1).clock ≡ 31
+  pub falls_through : (alone 0x00001463 1).at.context.pc ≡ 0x10004
+  pub rounds : (alone 0x00000063 4).clock ≡ 37
+  pub most : (after 0 5 (begin dear)).at.cost ≡ 91
+  pub in_all : (after 0 5 (begin dear)).clock ≡ 175

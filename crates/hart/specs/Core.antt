@@ -82,7 +82,7 @@ store_ran x t ws root width address value =
     (store_found x (after_lookup t ws root address Store) ws width address value (looked_up t ws root address Store).frame (looked_up t ws root address Store).cost)
     (ran (stopped x StoreMisaligned) t ws 0)
 
--- the predictor learns how a branch went, and a wrong prediction costs
+-- the predictor learns how a branch went, and a wrong prediction costs; of a branch that stops it is not asked
 abbrev pub branch_tables : Context → Tables → Bool → ℕ → Tables
 branch_tables x t taken target =
     cond (misses_target taken target) t (record { cache = t.cache; tlb = t.tlb; predictor = learned t.predictor x.pc taken })

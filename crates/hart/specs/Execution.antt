@@ -77,7 +77,7 @@ abbrev pub jumped : Context → Register → ℕ → Context
 jumped x rd target =
     cond (target % 4 == 0) (record { registers = written x.registers rd (next_pc x); pc = target; state = x.state }) (stopped x FetchMisaligned)
 
--- a taken branch to a target that is no multiple of 4 stops; the predictor is not asked
+-- a taken branch to a target that is no multiple of 4 stops
 abbrev pub misses_target : Bool → ℕ → Bool
 misses_target taken target = taken && not (target % 4 == 0)
 

@@ -23,25 +23,31 @@ Agreement = (x : Context) (t : Tables) (ws : List ℕ) (root clock : ℕ) → Ho
 abbrev pub TablesApart : List ℕ → ℕ → Type 0
 TablesApart ws root = (frame : ℕ) → Names ws root frame → KernelFrame ws root frame → ⊥
 
--- then a TLB that answers as a walk would does so after any step
+-- a step that leaves the root and its tables as they are keeps a TLB that answers as a walk would
+abbrev pub KeepsHonest : Type 0
+KeepsHonest =
+    (x : Context) (t : Tables) (ws : List ℕ) (root clock : ℕ) → SameTables ws (stepped x t ws root clock).words root → Honest t.tlb ws root →
+    Honest (stepped x t ws root clock).tables.tlb (stepped x t ws root clock).words root
+
+-- and so does every step of a root whose tables name none of them
 abbrev pub StaysHonest : Type 0
 StaysHonest =
     (x : Context) (t : Tables) (ws : List ℕ) (root clock : ℕ) → TablesApart ws root → Honest t.tlb ws root →
     Honest (stepped x t ws root clock).tables.tlb (stepped x t ws root clock).words root
 
 -- two memories are the same as far as the programs of a root reach: the same tables, the same of the frames concerned lent,
--- and the same words in every frame that the tables name
+-- and the same words in every frame that a page maps to
 pub record SameOwn (ws vs : List ℕ) (root : ℕ) : Type 0 where
   pub tables : SameTables ws vs root
   pub lent : SameLent ws vs root
-  pub named : (frame k : ℕ) → Names ws root frame → k < 1024 → word vs frame k ≡ word ws frame k
+  pub mapped : (page k : ℕ) (leaf : Leaf) → Maps ws root page leaf → k < 1024 → word vs leaf.frame k ≡ word ws leaf.frame k
 
--- a step in either gives the same context, the same tables and the same cycles, and the same words in the frames concerned
+-- a step in either gives the same context, the same tables and the same cycles, and where they held the same word they do so again
 pub record SameStep (x : Context) (t : Tables) (ws vs : List ℕ) (root clock : ℕ) : Type 0 where
   pub context : (stepped x t vs root clock).context ≡ (stepped x t ws root clock).context
   pub tables : (stepped x t vs root clock).tables ≡ (stepped x t ws root clock).tables
   pub cost : (stepped x t vs root clock).cost ≡ (stepped x t ws root clock).cost
-  pub words : (frame k : ℕ) → KernelFrame ws root frame ⊎ Names ws root frame → k < 1024 →
+  pub words : (frame k : ℕ) → word vs frame k ≡ word ws frame k →
       word (stepped x t vs root clock).words frame k ≡ word (stepped x t ws root clock).words frame k
 
 -- what a program does depends on no other memory

@@ -7,3 +7,4 @@ pub mod Architecture
 pub mod Laws
 pub mod Steps
 pub mod Clocked
+pub mod Example

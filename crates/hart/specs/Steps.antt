@@ -3,9 +3,11 @@ use Rattle.std.specs.Prelude.{◌≡◌, ℕ, ◌/◌, ◌%◌, ◌≤◌, ◌�
 use Rattle.words.specs.Costs.{highest, highest_branch, instruction}
 use Rattle.words.specs.Frames.{word}
 use Rattle.isa.specs.declared.register.Register.{Register}
+use Rattle.isa.specs.declared.register.Registers.{Registers}
 use Rattle.isa.specs.declared.instruction.Condition.{Condition}
 use Rattle.isa.specs.declared.instruction.Instruction.TheVariants.{Branch}
 use Rattle.isa.specs.Decoding.{decoded}
+use Rattle.isa.specs.Registers.{written}
 use Rattle.paging.specs.declared.access.Access.TheVariants.{Fetch}
 use Rattle.tables.specs.declared.Tables.{Tables}
 use Rattle.tables.specs.First.{first_tables}
@@ -23,6 +25,12 @@ pub record Stops (x : Context) (ws : List ℕ) (r : Ran) : Type 0 where
   pub context : r.context ≡ stopped x cause
   pub words : r.words ≡ ws
 
+-- one register is set
+pub record SetOne (before after : Registers) : Type 0 where
+  pub register : Register
+  pub value : ℕ
+  pub set : after ≡ written before register value
+
 -- the word that the program counter is at; one of frame 0 where the fetch faults
 abbrev pub fetched : Context → Tables → List ℕ → ℕ → ℕ
 fetched x t ws root = word ws (unwrap_or (looked_up t ws root x.pc Fetch).frame 0) (x.pc % 4096 / 4)
@@ -33,6 +41,9 @@ pub record Step (x : Context) (t : Tables) (ws : List ℕ) (root clock : ℕ) : 
   pub most : (stepped x t ws root clock).cost ≤ highest
   pub branch : (condition : Condition) (left right : Register) (offset : ℤ) → decoded (fetched x t ws root) ≡ Some (Branch condition left right offset) →
       (stepped x t ws root clock).cost ≤ highest_branch
+  -- at most one register is set, and a counter that is a multiple of 4 stays one
+  pub one_register : ((stepped x t ws root clock).context.registers ≡ x.registers) ⊎ SetOne x.registers (stepped x t ws root clock).context.registers
+  pub counter : x.pc % 4 ≡ 0 → (stepped x t ws root clock).context.pc % 4 ≡ 0
   -- a ready program goes on or stops, and one that is stopped stays as it is
   pub ready : x.state ≡ Ready → ((stepped x t ws root clock).context.state ≡ Ready) ⊎ Stops x ws (stepped x t ws root clock)
   pub rests : (cause : Cause) (pc : ℕ) → x.state ≡ Stopped cause pc → stepped x t ws root clock ≡ ran x t ws instruction

@@ -1,11 +1,14 @@
 // What the definitions of this crate come to, owed by this function's contract.
 ghost use Rattle.hart.specs.Clocked.{Clocked};
-ghost use Rattle.hart.specs.Laws.{Agreement, SeesOwn, StaysHonest, StaysOwn, WritesOwn};
+ghost use Rattle.hart.specs.Example.{Example};
+ghost use Rattle.hart.specs.Laws.{Agreement, KeepsHonest, SeesOwn, StaysHonest, StaysOwn, WritesOwn};
 ghost use Rattle.hart.specs.Steps.{StayWhole, Steps};
 
 pub fn laws()
     ensures agreement { Agreement }
     ensures clocked { Clocked }
+    ensures example { Example }
+    ensures keeps { KeepsHonest }
     ensures honest { StaysHonest }
     ensures own { SeesOwn }
     ensures writes { WritesOwn }

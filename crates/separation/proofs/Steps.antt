@@ -1,9 +1,10 @@
 -- The steps of one slot: what they keep, what they leave alone, how long they take, and that two systems take them alike.
-use Rattle.std.proofs.Common.{◌≡◌, ℕ, zero, suc, ◌+◌, ◌*◌, ◌<◌, ◌≤◌, true, ◌≢◌, List, sym, refl, ap, ◌∙◌, subst, inl, inr, arith}
+use Rattle.std.proofs.Common.{◌≡◌, ℕ, zero, suc, ◌+◌, ◌*◌, ◌<◌, ◌≤◌, true, ◌≢◌, List, sym, refl, ap, ◌∙◌, inl, inr, arith}
 use Rattle.std.proofs.lemmas.Bool.{cases_eq, cases_lt, le-ltb, lt-ltb}
 use Rattle.words.specs.Costs.{highest}
 use Rattle.words.specs.Frames.{lent, word}
 use Rattle.paging.specs.Tables.{Names, Owns, SameTables}
+use Rattle.paging.proofs.Agree.{leaves_named}
 use Rattle.tables.specs.Honest.{Honest}
 use Rattle.hart.specs.declared.context.State.{State}
 use Rattle.hart.specs.declared.context.State.TheVariants.{Ready, Stopped}
@@ -91,7 +92,7 @@ module _ (p : Plan) (who : ℕ) (kn : who < p.counts.partitions) where
         record {
           tables = tables;
           lent = λ f o. sv.lent who f kn (owns_there ws vs (root p who) tables f o) ∙ sym (sw.lent who f kn o);
-          named = λ f k n l. same who f k kn member l (inr n);
+          mapped = λ page k leaf m l. same who leaf.frame k kn member l (inr (leaves_named ws (root p who) page leaf m));
         }
 
     step_alike : (x y : Inside) → Good x → Good y → SameInside p A x y → SameInside p A (next (root p who) x) (next (root p who) y)
@@ -109,7 +110,7 @@ module _ (p : Plan) (who : ℕ) (kn : who < p.counts.partitions) where
           words = λ q f k l m b o2.
               let before = owns_back x.words (next (root p who) x).words (root p q) (wx.kept.tables q l) f o2 in
               elim (cases_eq q who) [
-                | inl here ↦ ap (λ z. word z.words f k) e ∙ s.words f k (subst (λ z. Owns x.words (root p z) f) here before) b
+                | inl here ↦ ap (λ z. word z.words f k) e ∙ s.words f k (same.words q f k l m b before)
                 | inr ne ↦
                     let tables : SameTables x.words y.words (root p q) = λ g j c d. same.words q g j l m d (inl c) in
                     wy.others f k (foreign p y.words q who f gy.sound.separate l kn ne (owns_there x.words y.words (root p q) tables f before)) b
