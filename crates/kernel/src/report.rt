@@ -1,6 +1,6 @@
 // What is told of a slot.
 ghost use Rattle.std.specs.Prelude.{Some};
-ghost use Rattle.kernel.specs.ReportText.{report_text};
+ghost use Rattle.kernel.specs.ReportText.{EightDigits, report_text};
 
 use hart::context::State;
 use std::fmt;
@@ -40,3 +40,8 @@ impl fmt::Display for Report {
         }
     }
 }
+
+// Every address is told in eight digits. This function does nothing: it owes the theorem in its contract.
+pub fn laws()
+    ensures { EightDigits }
+{}
