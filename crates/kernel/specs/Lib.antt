@@ -3,3 +3,4 @@ pub mod Inside
 pub mod Switch
 pub mod Machine
 pub mod Reports
+pub mod ReportText

@@ -1,4 +1,7 @@
 // What is told of a slot.
+ghost use Rattle.std.specs.Prelude.{Some};
+ghost use Rattle.kernel.specs.ReportText.{EightDigits, report_text};
+
 use hart::context::State;
 use std::fmt;
 
@@ -16,17 +19,29 @@ pub struct Report {
     pub state: State,
 }
 
-// One line: clocks and counts in decimal, addresses in eight hexadecimal digits. By hand, since it has two forms.
+// One line: clocks and counts in decimal, addresses in eight hexadecimal digits. By hand, since a contract says the text, and it has two forms.
 impl fmt::Display for Report {
+    ghost output = { λ r. Some (report_text r) };
+
     fn fmt<W: fmt::Write>(&self, f: &mut fmt::Formatter<W>) -> fmt::Result {
-        write!(f, "slot {} partition {} ", self.slot, self.partition)?;
         match self.state {
             State::Ready => write!(
                 f,
-                "from {} ended {} instructions {} pc {:08x}",
-                self.begin, self.end, self.instructions, self.pc
+                "slot {} partition {} from {} ended {} instructions {} pc {:08x}",
+                self.slot, self.partition, self.begin, self.end, self.instructions, self.pc
             ),
-            State::Stopped { cause, pc } => write!(f, "stopped {} at {pc:08x}", cause.number()),
+            State::Stopped { cause, pc } => write!(
+                f,
+                "slot {} partition {} stopped {} at {pc:08x}",
+                self.slot,
+                self.partition,
+                cause.number()
+            ),
         }
     }
 }
+
+// Every address is told in eight digits. This function does nothing: it owes the theorem in its contract.
+pub fn laws()
+    ensures { EightDigits }
+{}

@@ -1,6 +1,6 @@
 // The switch after a slot: messages.
-ghost use Rattle.std.specs.Prelude.{◌≡◌, slice_index_or};
-ghost use Rattle.checker.specs.Pages.{no_ends};
+ghost use Rattle.std.specs.Prelude.{◌≡◌};
+ghost use Rattle.checker.specs.Pages.{ends_at};
 ghost use Rattle.kernel.specs.Switch.{carried, delivered};
 
 use checker::Accepted;
@@ -8,7 +8,7 @@ use checker::pages::Ends;
 use words::frames;
 
 fn ends_at(ends: &[Ends], k: u8) -> Ends
-    ensures { result ≡ slice_index_or ends.now k no_ends }
+    ensures { result ≡ ends_at ends.now k }
 {
     ends.get(usize::from(k)).copied().unwrap_or_default()
 }

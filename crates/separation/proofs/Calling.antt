@@ -17,14 +17,17 @@ use Rattle.separation.specs.Agreement.{Agree, In}
 use Rattle.separation.specs.Calls.{Runs, SlotKeeps, SlotUnseen, Starts, WholeRun, finished_with, first, in_words, last_report, ready, ready_with, words_with}
 use Rattle.separation.specs.Each.{LoadsAlike}
 use Rattle.separation.specs.Promises.{SlotPromises}
-use Rattle.separation.specs.Running.{Running}
+use Rattle.separation.specs.Running.{BeforeSlot, Running}
 use Rattle.separation.proofs.Slots.{keeps_promises}
 use Rattle.separation.proofs.Unseen.{noninterference}
 
 -- an accepted plan runs from its first state on
+pub before_first : (bytes words : List ℕ) (a : Accepted) → checked bytes words ≡ Ok a → BeforeSlot bytes a (first a words)
+before_first bytes words a e = record { accepts = e; tables = refl; contexts = length_rows (fresh_at a.plan) (fresh 0) 8 8 }
+
 pub running_first : (bytes words : List ℕ) (a : Accepted) → checked bytes words ≡ Ok a → Running bytes a (first a words)
 unfolding begins
-running_first bytes words a e = record { accepts = e; tables = refl; contexts = length_rows (fresh_at a.plan) (fresh 0) 8 8; clock = refl }
+running_first bytes words a e = record { before = before_first bytes words a e; clock = refl }
 
 starts_by : (bytes words : List ℕ) (r : Result Accepted Refusal) → checked bytes words ≡ r → MatchResult r (Sound bytes words) (FirstFound bytes words) →
     MatchResult (ready_with r) (λ k. Sound bytes words k.accepted × Running bytes k.accepted (in_words k words)) (FirstFound bytes words)
@@ -96,7 +99,7 @@ module _ (bytes words : List ℕ) (a : Accepted) (e : checked bytes words ≡ Ok
     on_time = λ k l. (at k l).running.clock ∙ ap (begins a.plan) (at k l).turn;
     in_turn = λ k l. (at k l).turn;
     slots = λ k l. (let z = at k (omega arith) in keeps_promises bytes a (after_slots a k (first a words)) z.running (omega (arith, z.turn)));
-    unseen = λ b A others closed d same. noninterference bytes a b A (first a words) (first b others) closed (running_first bytes words a e) (running_first bytes others b d) (loads_alike bytes words others a b A e d same);
+    unseen = λ b A others closed d same. noninterference bytes a b A (first a words) (first b others) closed (before_first bytes words a e) (before_first bytes others b d) (loads_alike bytes words others a b A e d same);
   }
 
 -- a kernel that is ready to run: what the checker answered

@@ -15,7 +15,7 @@ pub on_time : OnTime
 on_time bytes words a e k room = (whole_run bytes words a e k room).on_time k (omega arith)
 
 pub stays_accepted : StaysAccepted
-stays_accepted bytes words a e k room = (at bytes words a e k room k (omega arith)).running.accepts
+stays_accepted bytes words a e k room = (at bytes words a e k room k (omega arith)).running.before.accepts
 
 pub switches_fit : SwitchesFit
 switches_fit bytes words a e k room = (of_slot bytes words a e k room).switch

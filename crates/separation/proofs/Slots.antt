@@ -20,15 +20,15 @@ use Rattle.kernel.specs.Machine.{System, after_slot, can_run, coming, ended, ent
 use Rattle.kernel.specs.Switch.{delivered, ends_of, switch_work}
 use Rattle.kernel.proofs.Turning.{can}
 use Rattle.separation.specs.Promises.{Confined, KeepsPromises, Messages, Progress, SlotPromises, TranslatesThroughout, runs}
-use Rattle.separation.specs.Running.{Running}
+use Rattle.separation.specs.Running.{BeforeSlot, Running}
 use Rattle.separation.proofs.Carrying.{delivered_kept, delivered_others, delivered_there, is_receiver}
 use Rattle.separation.proofs.Facts.{Facts, accepts_again, facts, facts_kept}
 use Rattle.separation.proofs.Frames.{Kept, kept_more}
 use Rattle.separation.proofs.Steps.{Good, Went, foreign, until_counted, until_least, until_most, until_went}
 
-module _ (bytes : List ℕ) (a : Accepted) (s : System) (running : Running bytes a s) where
+module _ (bytes : List ℕ) (a : Accepted) (s : System) (before : BeforeSlot bytes a s) where
   pub known : Facts a.plan a.ends s.words
-  known = facts bytes s.words a running.accepts
+  known = facts bytes s.words a before.accepts
 
   pub who_known : who_runs a.plan s.machine < a.plan.counts.partitions
   who_known = known.timely.runs s.machine.turn
@@ -36,7 +36,7 @@ module _ (bytes : List ℕ) (a : Accepted) (s : System) (running : Running bytes
   pub good : Good a.plan (runs a s) who_known (entered a.plan s)
   good = record {
     sound = known.frames;
-    honest = subst (λ t. Honest t.tlb s.words (root a.plan (runs a s))) (sym running.tables) (honesty.first s.words (root a.plan (runs a s)));
+    honest = subst (λ t. Honest t.tlb s.words (root a.plan (runs a s))) (sym before.tables) (honesty.first s.words (root a.plan (runs a s)));
   }
 
   pub went : (n : ℕ) → Went a.plan (runs a s) who_known (entered a.plan s) (inside_after a.plan s n)
@@ -56,24 +56,32 @@ module _ (bytes : List ℕ) (a : Accepted) (s : System) (running : Running bytes
     own = λ f j b ne. w.others f j ne b;
   }
 
-  -- the slot and its switch take as long as the budget allows
-  late : (ended a.plan s).clock < slot_end a.plan s.machine + highest
+  -- the slot goes on to its end, and with its switch takes as long as the budget allows
+  reached : slot_end a.plan s.machine ≤ (ended a.plan s).clock
   unfolding inside_after
-  late = until_most (root a.plan (runs a s)) (slot_end a.plan s.machine) (coming a.plan s.machine).length (entered a.plan s) (omega arith)
+  reached = until_least (root a.plan (runs a s)) (slot_end a.plan s.machine) (coming a.plan s.machine).length (entered a.plan s) (omega arith)
+
+  past : (ended a.plan s).clock < slot_end a.plan s.machine + highest
+  unfolding inside_after
+  past = until_most (root a.plan (runs a s)) (slot_end a.plan s.machine) (coming a.plan s.machine).length (entered a.plan s) (omega arith)
 
   fits : (ended a.plan s).clock + switch_work a.plan (runs a s) (ended a.plan s).tables ≤ slot_end a.plan s.machine + a.plan.budget
   fits =
       let dirty = count_at_most (dirty_at (ended a.plan s).tables.cache) 64 in
       let out = most_bound (channels_out a.plan) a.plan.counts.partitions (runs a s) who_known in
-      omega (arith, late, dirty, out, known.timely.ample)
+      omega (arith, past, dirty, out, known.timely.ample)
 
-  module _ (room : s.machine.turn + 1 < 2 ^ 32) where
-    pub can_be : can_run a.plan s.machine ≡ true
-    can_be = can a.plan s.machine (coming a.plan s.machine) refl (omega (arith, who_known, known.timely.few)) room (omega (arith, running.clock, known.timely.bounded s.machine.turn))
+  progress : Progress a s
+  unfolding inside_after
+  progress ready =
+      let n = (coming a.plan s.machine).length in
+      let c = until_counted (root a.plan (runs a s)) (slot_end a.plan s.machine) n (entered a.plan s) ready in
+      omega (arith, c.paid, reached)
 
+  module _ (able : can_run a.plan s.machine ≡ true) where
     after_is : after_slot a s ≡ slot_ran a s
     unfolding after_slot
-    after_is = cond-true (can_run a.plan s.machine) (slot_ran a s) s can_be
+    after_is = cond-true (can_run a.plan s.machine) (slot_ran a s) s able
 
     pub words_are : (after_slot a s).words ≡ delivered a (runs a s) a.plan.counts.channels (ended a.plan s).words
     unfolding slot_ran
@@ -83,11 +91,11 @@ module _ (bytes : List ℕ) (a : Accepted) (s : System) (running : Running bytes
     unfolding slot_ran
     contexts_are = ap (λ z. z.machine.contexts) after_is
 
-    cleared : (after_slot a s).machine.tables ≡ first_tables
+    pub cleared : (after_slot a s).machine.tables ≡ first_tables
     unfolding slot_ran
     cleared = ap (λ z. z.machine.tables) after_is
 
-    turned : (after_slot a s).machine.turn ≡ s.machine.turn + 1
+    pub turned : (after_slot a s).machine.turn ≡ s.machine.turn + 1
     unfolding slot_ran
     turned = ap (λ z. z.machine.turn) after_is
 
@@ -99,13 +107,11 @@ module _ (bytes : List ℕ) (a : Accepted) (s : System) (running : Running bytes
     kept = subst (Kept a.plan s.words) (sym words_are)
         (kept_more a.plan s.words (ended a.plan s).words _ at_end.kept (delivered_kept a (runs a s) a.plan.counts.channels (ended a.plan s).words (omega arith) end_facts))
 
-    again : Running bytes a (after_slot a s)
-    unfolding begins
-    again = record {
-      accepts = accepts_again bytes s.words (after_slot a s).words a kept running.accepts;
+    pub before_again : BeforeSlot bytes a (after_slot a s)
+    before_again = record {
+      accepts = accepts_again bytes s.words (after_slot a s).words a kept before.accepts;
       tables = cleared;
-      contexts = ap length contexts_are ∙ length-set s.machine.contexts (runs a s) (ended a.plan s).context ∙ running.contexts;
-      clock = next ∙ ap (λ c. c + (coming a.plan s.machine).length + a.plan.budget) running.clock ∙ ap (begins a.plan) (sym (turned ∙ add-one s.machine.turn));
+      contexts = ap length contexts_are ∙ length-set s.machine.contexts (runs a s) (ended a.plan s).context ∙ before.contexts;
     }
 
     messages : Messages a s (after_slot a s)
@@ -120,7 +126,7 @@ module _ (bytes : List ℕ) (a : Accepted) (s : System) (running : Running bytes
           none k l (eqb-true (channel a.plan k).sender.partition (runs a s) goes));
     }
 
-    confined : (q : ℕ) → q < a.plan.counts.partitions → q ≢ runs a s → Confined a s (after_slot a s) q
+    pub confined : (q : ℕ) → q < a.plan.counts.partitions → q ≢ runs a s → Confined a s (after_slot a s) q
     confined q l ne = record {
       context = rw contexts_are (get_or-set_other s.machine.contexts (runs a s) q (ended a.plan s).context (fresh 0) ne);
       words = λ f j b o none.
@@ -131,24 +137,32 @@ module _ (bytes : List ℕ) (a : Accepted) (s : System) (running : Running bytes
           ∙ at_end.others f j (foreign a.plan s.words q (runs a s) f known.frames.separate l who_known ne o) b;
     }
 
-    progress : Progress a s
-    unfolding inside_after
-    progress ready =
-        let n = (coming a.plan s.machine).length in
-        let c = until_counted (root a.plan (runs a s)) (slot_end a.plan s.machine) n (entered a.plan s) ready in
-        let least = until_least (root a.plan (runs a s)) (slot_end a.plan s.machine) n (entered a.plan s) (omega arith) in
-        omega (arith, c.paid, least)
+-- on time
+module _ (bytes : List ℕ) (a : Accepted) (s : System) (running : Running bytes a s) (room : s.machine.turn + 1 < 2 ^ 32) where
+  can_be : can_run a.plan s.machine ≡ true
+  can_be =
+      let time = (known bytes a s running.before).timely in
+      can a.plan s.machine (coming a.plan s.machine) refl (omega (arith, who_known bytes a s running.before, time.few)) room (omega (arith, running.clock, time.bounded s.machine.turn))
 
-    pub promised : SlotPromises bytes a s (after_slot a s)
-    promised = record {
-      again = again;
-      turn = turned;
-      switch = record { cleared = cleared; fits = fits; next = next };
-      messages = messages;
-      confined = confined;
-      translation = translates;
-      progress = progress;
-    }
+  again : Running bytes a (after_slot a s)
+  unfolding begins
+  again = record {
+    before = before_again bytes a s running.before can_be;
+    clock =
+        next bytes a s running.before can_be ∙ ap (λ c. c + (coming a.plan s.machine).length + a.plan.budget) running.clock
+        ∙ ap (begins a.plan) (sym (turned bytes a s running.before can_be ∙ add-one s.machine.turn));
+  }
+
+  promised : SlotPromises bytes a s (after_slot a s)
+  promised = let b = running.before in record {
+    again = again;
+    turn = turned bytes a s b can_be;
+    switch = record { reached = reached bytes a s b; past = past bytes a s b; cleared = cleared bytes a s b can_be; fits = fits bytes a s b; next = next bytes a s b can_be };
+    messages = messages bytes a s b can_be;
+    confined = confined bytes a s b can_be;
+    translation = translates bytes a s b;
+    progress = progress bytes a s b;
+  }
 
 pub keeps_promises : KeepsPromises
 keeps_promises bytes a s running room = promised bytes a s running room

@@ -86,7 +86,7 @@ module _ (p : Plan) (who : ℕ) (kn : who < p.counts.partitions) where
 
   -- two systems in which a member of the set runs
   module _ (A : ℕ → Type 0) (member : A who) where
-    own : (ws vs : List ℕ) → SoundFrames p ws → SoundFrames p vs → SameWords p A ws vs → SameOwn ws vs (root p who)
+    pub own : (ws vs : List ℕ) → SoundFrames p ws → SoundFrames p vs → SameWords p A ws vs → SameOwn ws vs (root p who)
     own ws vs sw sv same =
         let tables : SameTables ws vs (root p who) = λ f k o l. same who f k kn member l (inl o) in
         record {

@@ -1,7 +1,7 @@
 -- Noninterference: two systems that agree on a closed set go on agreeing, slot by slot and step by step.
-use Rattle.std.proofs.Common.{◌≡◌, ℕ, zero, suc, ◌+◌, ◌^◌, ◌<◌, cond, ◌&&◌, ltb, List, length, Some, None, sym, refl, ap, ◌∙◌, subst, inl, inr, arith}
+use Rattle.std.proofs.Common.{◌≡◌, ℕ, zero, suc, ◌+◌, ◌^◌, ◌<◌, true, cond, ◌&&◌, ltb, List, length, Some, None, sym, refl, ap, ◌∙◌, subst, inl, inr, arith}
 use Rattle.std.proofs.lemmas.List.{get_or-set_same}
-use Rattle.std.proofs.lemmas.Bool.{and_parts, cases_Bool, cases_eq, ltb-true}
+use Rattle.std.proofs.lemmas.Bool.{cases_Bool, cases_eq}
 use Rattle.words.specs.Frames.{word}
 use Rattle.paging.specs.Tables.{SameTables}
 use Rattle.tables.specs.Honest.{Honest}
@@ -19,11 +19,11 @@ use Rattle.kernel.specs.Reports.{report_of, slot_report}
 use Rattle.kernel.specs.Switch.{delivered}
 use Rattle.separation.specs.Agreement.{Agree, AllBut, In, Noninterference, NotReached, Only, SameInside, SameReport, SameWords, StepByStep, Unseen}
 use Rattle.separation.specs.Flows.{Closed, RowOfFlows, stays, goes_on}
-use Rattle.separation.specs.Promises.{SlotPromises, runs}
-use Rattle.separation.specs.Running.{Running}
+use Rattle.separation.specs.Promises.{runs}
+use Rattle.separation.specs.Running.{BeforeSlot}
 use Rattle.separation.proofs.Carrying.{delivered_alike}
 use Rattle.separation.proofs.Frames.{owns_back, owns_there}
-use Rattle.separation.proofs.Slots.{contexts_are, end_facts, good, known, promised, went, who_known, words_are}
+use Rattle.separation.proofs.Slots.{before_again, cleared, confined, contexts_are, end_facts, good, known, next, turned, went, who_known, words_are}
 use Rattle.separation.proofs.Steps.{Good, foreign, until_alike}
 
 -- reports with the same parts
@@ -39,7 +39,7 @@ module _ (bytes : List ℕ) (p : Plan) (ea eb : List Ends) (A : ℕ → Type 0) 
   abbrev other : Accepted
   other = record { plan = p; ends = eb }
 
-  module _ (s t : System) (rs : Running bytes (record { plan = p; ends = ea }) s) (rt : Running bytes (record { plan = p; ends = eb }) t) (same : Agree p A s t) where
+  module _ (s t : System) (rs : BeforeSlot bytes (record { plan = p; ends = ea }) s) (rt : BeforeSlot bytes (record { plan = p; ends = eb }) t) (same : Agree p A s t) where
     same_who : who_runs p t.machine ≡ who_runs p s.machine
     same_who = ap (λ n. (slot_of p n).partition) same.turn
 
@@ -95,37 +95,36 @@ module _ (bytes : List ℕ) (p : Plan) (ea eb : List Ends) (A : ℕ → Type 0) 
               ∙ sym (here.others f k (foreign p s.words q (who_runs p s.machine) f (known bytes one s rs).frames.separate l (who_known bytes one s rs) ne before) b)
         ]
 
-    module _ (room : s.machine.turn + 1 < 2 ^ 32) where
-      there_room : t.machine.turn + 1 < 2 ^ 32
-      there_room = omega (arith, same.turn, room)
+    same_can : can_run p t.machine ≡ can_run p s.machine
+    same_can =
+        ap (λ n. ltb (slot_of p n).partition 8 && (ltb (n + 1) (2 ^ 32) && ltb t.machine.clock (2 ^ 63))) same.turn
+        ∙ ap (λ c. ltb (who_runs p s.machine) 8 && (ltb (s.machine.turn + 1) (2 ^ 32) && ltb c (2 ^ 63))) same.clock
 
-      here_promised : SlotPromises bytes (record { plan = p; ends = ea }) s (after_slot (record { plan = p; ends = ea }) s)
-      here_promised = promised bytes one s rs room
-
-      there_promised : SlotPromises bytes (record { plan = p; ends = eb }) t (after_slot (record { plan = p; ends = eb }) t)
-      there_promised = promised bytes other t rt there_room
+    module _ (here_able : can_run p s.machine ≡ true) where
+      there_able : can_run p t.machine ≡ true
+      there_able = same_can ∙ here_able
 
       -- what the program that ran has become
-      ran_context : (a : Accepted) (u : System) (r : Running bytes a u) → u.machine.turn + 1 < 2 ^ 32 → (w : ℕ) → w ≡ runs a u → context_of (after_slot a u).machine w ≡ (ended a.plan u).context
-      ran_context a u r more w e =
+      ran_context : (a : Accepted) (u : System) (r : BeforeSlot bytes a u) → can_run a.plan u.machine ≡ true → (w : ℕ) → w ≡ runs a u → context_of (after_slot a u).machine w ≡ (ended a.plan u).context
+      ran_context a u r able w e =
           let inside : w < length u.machine.contexts = omega (arith, e, who_known bytes a u r, (known bytes a u r).timely.few, r.contexts) in
-          rw (contexts_are bytes a u r more, sym e) (get_or-set_same u.machine.contexts w (ended a.plan u).context (fresh 0) inside)
+          rw (contexts_are bytes a u r able, sym e) (get_or-set_same u.machine.contexts w (ended a.plan u).context (fresh 0) inside)
 
       contexts : (q : ℕ) → q < p.counts.partitions → A q → context_of (after_slot other t).machine q ≡ context_of (after_slot one s).machine q
       contexts q l m = elim (cases_eq q (who_runs p s.machine)) [
         | inl e ↦
-            ran_context other t rt there_room q (e ∙ sym same_who)
+            ran_context other t rt there_able q (e ∙ sym same_who)
             ∙ ap (λ x. x.context) same_ended ∙ (steps (subst A e m) (coming p s.machine).length).context
-            ∙ sym (ran_context one s rs room q e)
+            ∙ sym (ran_context one s rs here_able q e)
         | inr ne ↦
-            (there_promised.confined q l (λ e. ne (e ∙ same_who))).context ∙ same.contexts q l m ∙ sym (here_promised.confined q l ne).context
+            (confined bytes other t rt there_able q l (λ e. ne (e ∙ same_who))).context ∙ same.contexts q l m ∙ sym (confined bytes one s rs here_able q l ne).context
       ]
 
       words : SameWords p A (after_slot one s).words (after_slot other t).words
       words =
           let e : (after_slot other t).words ≡ delivered other (who_runs p s.machine) p.counts.channels (ended p t).words =
-          words_are bytes other t rt there_room ∙ ap (λ w. delivered other w p.counts.channels (ended p t).words) same_who in
-          subst (λ z. SameWords p A z (after_slot other t).words) (sym (words_are bytes one s rs room))
+          words_are bytes other t rt there_able ∙ ap (λ w. delivered other w p.counts.channels (ended p t).words) same_who in
+          subst (λ z. SameWords p A z (after_slot other t).words) (sym (words_are bytes one s rs here_able))
           (subst (λ z. SameWords p A (delivered one (who_runs p s.machine) p.counts.channels (ended p s).words) z) (sym e)
           (delivered_alike p ea eb A closed (who_runs p s.machine) p.counts.channels (ended p s).words (ended p t).words (omega arith) (end_facts bytes one s rs) (end_facts bytes other t rt) end_words))
 
@@ -133,15 +132,10 @@ module _ (bytes : List ℕ) (p : Plan) (ea eb : List Ends) (A : ℕ → Type 0) 
       ran_alike = record {
         contexts = contexts;
         words = words;
-        tables = there_promised.switch.cleared ∙ sym here_promised.switch.cleared;
-        clock = omega (arith, there_promised.switch.next, here_promised.switch.next, same_end);
-        turn = omega (arith, there_promised.turn, here_promised.turn, same.turn);
+        tables = cleared bytes other t rt there_able ∙ sym (cleared bytes one s rs here_able);
+        clock = omega (arith, next bytes other t rt there_able, next bytes one s rs here_able, same_end);
+        turn = omega (arith, turned bytes other t rt there_able, turned bytes one s rs here_able, same.turn);
       }
-
-    same_can : can_run p t.machine ≡ can_run p s.machine
-    same_can =
-        ap (λ n. ltb (slot_of p n).partition 8 && (ltb (n + 1) (2 ^ 32) && ltb t.machine.clock (2 ^ 63))) same.turn
-        ∙ ap (λ c. ltb (who_runs p s.machine) 8 && (ltb (s.machine.turn + 1) (2 ^ 32) && ltb c (2 ^ 63))) same.clock
 
     reports : SameReport p A s t
     unfolding slot_report
@@ -154,26 +148,24 @@ module _ (bytes : List ℕ) (p : Plan) (ea eb : List Ends) (A : ℕ → Type 0) 
         ap (λ c. cond c (Some (report_of p t (ended p t))) None) same_can ∙ ap (λ r. cond (can_run p s.machine) (Some r) None) told
 
     record Both : Type 0 where
-      here : Running bytes (record { plan = p; ends = ea }) (after_slot (record { plan = p; ends = ea }) s)
-      there : Running bytes (record { plan = p; ends = eb }) (after_slot (record { plan = p; ends = eb }) t)
+      here : BeforeSlot bytes (record { plan = p; ends = ea }) (after_slot (record { plan = p; ends = ea }) s)
+      there : BeforeSlot bytes (record { plan = p; ends = eb }) (after_slot (record { plan = p; ends = eb }) t)
       agree : Agree p A (after_slot (record { plan = p; ends = ea }) s) (after_slot (record { plan = p; ends = eb }) t)
 
     both : Both
     unfolding after_slot
     both = elim (cases_Bool (can_run p s.machine)) [
-      | inl e ↦
-          let room = ltb-true (s.machine.turn + 1) (2 ^ 32) (and_parts (ltb (s.machine.turn + 1) (2 ^ 32)) (ltb s.machine.clock (2 ^ 63)) (and_parts (ltb (who_runs p s.machine) 8) (ltb (s.machine.turn + 1) (2 ^ 32) && ltb s.machine.clock (2 ^ 63)) e).1).0 in
-          record { here = (here_promised room).again; there = (there_promised room).again; agree = ran_alike room }
+      | inl e ↦ record { here = before_again bytes one s rs e; there = before_again bytes other t rt (there_able e); agree = ran_alike e }
       | inr e ↦ (let d = same_can ∙ e in record { here = rw e rs; there = rw d rt; agree = rw (e, d) same })
     ]
 
   -- any number of slots
   record After (n : ℕ) (s t : System) : Type 0 where
-    here : Running bytes (record { plan = p; ends = ea }) (after_slots (record { plan = p; ends = ea }) n s)
-    there : Running bytes (record { plan = p; ends = eb }) (after_slots (record { plan = p; ends = eb }) n t)
+    here : BeforeSlot bytes (record { plan = p; ends = ea }) (after_slots (record { plan = p; ends = ea }) n s)
+    there : BeforeSlot bytes (record { plan = p; ends = eb }) (after_slots (record { plan = p; ends = eb }) n t)
     agree : Agree p A (after_slots (record { plan = p; ends = ea }) n s) (after_slots (record { plan = p; ends = eb }) n t)
 
-  after : (n : ℕ) (s t : System) → Running bytes (record { plan = p; ends = ea }) s → Running bytes (record { plan = p; ends = eb }) t → Agree p A s t → After n s t
+  after : (n : ℕ) (s t : System) → BeforeSlot bytes (record { plan = p; ends = ea }) s → BeforeSlot bytes (record { plan = p; ends = eb }) t → Agree p A s t → After n s t
   unfolding after_slots
   after zero s t rs rt same = record { here = rs; there = rt; agree = same }
   after (suc n) s t rs rt same =
@@ -181,7 +173,7 @@ module _ (bytes : List ℕ) (p : Plan) (ea eb : List Ends) (A : ℕ → Type 0) 
       let b = both (after_slots one n s) (after_slots other n t) z.here z.there z.agree in
       record { here = b.here; there = b.there; agree = b.agree }
 
-  pub unseen : (s t : System) → Running bytes (record { plan = p; ends = ea }) s → Running bytes (record { plan = p; ends = eb }) t → Agree p A s t →
+  pub unseen : (s t : System) → BeforeSlot bytes (record { plan = p; ends = ea }) s → BeforeSlot bytes (record { plan = p; ends = eb }) t → Agree p A s t →
       Unseen p A (record { plan = p; ends = ea }) (record { plan = p; ends = eb }) s t
   unseen s t rs rt same = record {
     slots = λ n. (after n s t rs rt same).agree;
@@ -190,11 +182,11 @@ module _ (bytes : List ℕ) (p : Plan) (ea eb : List Ends) (A : ℕ → Type 0) 
   }
 
 -- one plan: what both systems were accepted with
-pub unseen_by : (bytes : List ℕ) (a b : Accepted) (A : ℕ → Type 0) (s t : System) → Closed a.plan A → Running bytes a s → Running bytes b t → Agree a.plan A s t → Unseen a.plan A a b s t
+pub unseen_by : (bytes : List ℕ) (a b : Accepted) (A : ℕ → Type 0) (s t : System) → Closed a.plan A → BeforeSlot bytes a s → BeforeSlot bytes b t → Agree a.plan A s t → Unseen a.plan A a b s t
 unseen_by bytes a b A s t closed rs rt same =
     let e : b.plan ≡ a.plan = (accepted_sound bytes t.words b rt.accepts).plan ∙ sym (accepted_sound bytes s.words a rs.accepts).plan in
     let d : ◌≡◌ {A = Accepted} (record { plan = b.plan; ends = b.ends }) (record { plan = a.plan; ends = b.ends }) = ap (λ q. record { plan = q; ends = b.ends }) e in
-    subst (λ z. Unseen a.plan A a z s t) (sym d) (unseen bytes a.plan a.ends b.ends A closed s t rs (subst (λ z. Running bytes z t) d rt) same)
+    subst (λ z. Unseen a.plan A a z s t) (sym d) (unseen bytes a.plan a.ends b.ends A closed s t rs (subst (λ z. BeforeSlot bytes z t) d rt) same)
 
 pub noninterference : Noninterference
 noninterference bytes a b A = unseen_by bytes a b (In A)

@@ -9,7 +9,7 @@ use Rattle.kernel.specs.Machine.{System, after_slots, context_of, inside_after, 
 use Rattle.kernel.specs.Reports.{slot_report}
 use Rattle.separation.specs.Flows.{Closed, RowOfFlows}
 use Rattle.paging.specs.Tables.{Owns}
-use Rattle.separation.specs.Running.{Running}
+use Rattle.separation.specs.Running.{BeforeSlot}
 
 -- the words of every root, table and named frame of the members
 abbrev pub SameWords : Plan → (ℕ → Type 0) → List ℕ → List ℕ → Type 0
@@ -51,10 +51,10 @@ pub record Unseen (p : Plan) (A : ℕ → Type 0) (a b : Accepted) (s t : System
 abbrev pub In : (ℕ → Bool) → ℕ → Type 0
 In A q = A q ≡ true
 
--- NONINTERFERENCE: for every plan, every closed set, and every two systems that run the plan, each accepted on its own, and agree on the set
+-- NONINTERFERENCE: for every plan, every closed set, and every two systems before a slot of the plan, each accepted on its own, that agree on the set
 abbrev pub Noninterference : Type 0
 Noninterference =
-    (bytes : List ℕ) (a b : Accepted) (A : ℕ → Bool) (s t : System) → Closed a.plan (In A) → Running bytes a s → Running bytes b t → Agree a.plan (In A) s t →
+    (bytes : List ℕ) (a b : Accepted) (A : ℕ → Bool) (s t : System) → Closed a.plan (In A) → BeforeSlot bytes a s → BeforeSlot bytes b t → Agree a.plan (In A) s t →
     Unseen a.plan (In A) a b s t
 
 -- a set with one partition left out
@@ -67,5 +67,5 @@ Only q r = r ≡ q
 -- if no row of flows leads from q to r, nothing of q is ever seen by r: two systems that differ in q alone agree on r forever
 abbrev pub NotReached : Type 0
 NotReached =
-    (bytes : List ℕ) (a b : Accepted) (q r : ℕ) (s t : System) → (RowOfFlows a.plan q r → ⊥) → Running bytes a s → Running bytes b t → Agree a.plan (AllBut q) s t →
+    (bytes : List ℕ) (a b : Accepted) (q r : ℕ) (s t : System) → (RowOfFlows a.plan q r → ⊥) → BeforeSlot bytes a s → BeforeSlot bytes b t → Agree a.plan (AllBut q) s t →
     Unseen a.plan (Only r) a b s t

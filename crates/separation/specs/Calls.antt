@@ -14,7 +14,7 @@ use Rattle.separation.specs.declared.run.Finished.{Finished}
 use Rattle.separation.specs.Agreement.{Agree, In, SameReport, SameWords, StepByStep, Unseen}
 use Rattle.separation.specs.Flows.{Closed}
 use Rattle.separation.specs.Promises.{SlotPromises}
-use Rattle.separation.specs.Running.{Running}
+use Rattle.separation.specs.Running.{BeforeSlot, Running}
 
 -- an accepted plan before its first slot
 abbrev pub ready : Accepted → Kernel
@@ -40,7 +40,7 @@ SlotKeeps a s t = (bytes : List ℕ) → Running bytes a s → s.machine.turn + 
 -- and is unseen by any closed set: whatever other system agrees with this one on the set agrees with it after the slot, and in each step of a member
 abbrev pub SlotUnseen : Accepted → System → System → Type 0
 SlotUnseen a s t =
-    (bytes : List ℕ) (b : Accepted) (A : ℕ → Bool) (u : System) → Closed a.plan (In A) → Running bytes a s → Running bytes b u → Agree a.plan (In A) s u →
+    (bytes : List ℕ) (b : Accepted) (A : ℕ → Bool) (u : System) → Closed a.plan (In A) → BeforeSlot bytes a s → BeforeSlot bytes b u → Agree a.plan (In A) s u →
     Agree a.plan (In A) t (after_slot b u) × StepByStep a.plan (In A) s u × SameReport a.plan (In A) s u
 
 -- the system of an accepted plan before its first slot

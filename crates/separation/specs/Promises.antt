@@ -19,9 +19,11 @@ use Rattle.separation.specs.Running.{Running}
 abbrev pub runs : Accepted → System → ℕ
 runs a s = who_runs a.plan s.machine
 
--- the tables after the switch are in their first state, and its work, write-backs and copies included, ends before the next slot begins: so when the next
--- slot begins hides how many lines were dirty
+-- the slot goes on to its end, and its last step ends there or less than the highest cost past it. The tables after the switch are in their first state, and
+-- its work, write-backs and copies included, ends before the next slot begins: so when the next slot begins hides how many lines were dirty
 pub record Switches (a : Accepted) (s t : System) : Type 0 where
+  pub reached : slot_end a.plan s.machine ≤ (ended a.plan s).clock
+  pub past : (ended a.plan s).clock < slot_end a.plan s.machine + highest
   pub cleared : t.machine.tables ≡ first_tables
   pub fits : (ended a.plan s).clock + switch_work a.plan (runs a s) (ended a.plan s).tables ≤ slot_end a.plan s.machine + a.plan.budget
   pub next : t.machine.clock ≡ slot_end a.plan s.machine + a.plan.budget

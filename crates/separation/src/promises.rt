@@ -8,7 +8,7 @@ pub fn slots_on_time()
     ensures { OnTime }
 {}
 
-// After a switch the tables are in their first state, and its work ends within the budget.
+// A slot goes on to its end and at most 90 cycles past it. After its switch the tables are in their first state, and its work ends within the budget.
 pub fn switches()
     ensures { SwitchesFit }
 {}

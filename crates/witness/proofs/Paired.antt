@@ -1,15 +1,21 @@
 -- Two systems that agree on the first partition and differ elsewhere.
-use Rattle.std.proofs.Common.{◌≡◌, ℕ, ◌*◌, ◌/◌, ◌%◌, length, refl, ap, ◌∙◌, subst, arith}
+use Rattle.std.proofs.Common.{◌≡◌, ℕ, ◌*◌, ◌/◌, ◌%◌, ◌<◌, length, sym, refl, ap, ◌∙◌, subst, inl, inr, arith}
 use Rattle.std.proofs.lemmas.List.FromFn.{length-map-range_with_len}
-use Rattle.std.proofs.lemmas.Bool.{eqb-true}
+use Rattle.std.proofs.lemmas.Bool.{cases_eq, eq-eqb, eqb-true}
+use Rattle.words.specs.Frames.{word}
+use Rattle.paging.specs.Laws.{SameWay}
+use Rattle.paging.specs.Mapping.{Pointer}
+use Rattle.paging.specs.Tables.{Owns, PointsTo}
+use Rattle.hart.specs.Laws.{SameOwn, TablesApart}
 use Rattle.plan.specs.Format.{plan_of, rows}
 use Rattle.plan.specs.Rules.{channel}
 use Rattle.checker.specs.Lawful.{root}
-use Rattle.separation.specs.Agreement.{Agree, In}
-use Rattle.separation.specs.Flows.{Closed}
-use Rattle.paging.specs.Tables.{Owns}
+use Rattle.separation.specs.Agreement.{Agree, AllBut, In}
+use Rattle.separation.specs.Flows.{Closed, RowOfFlows, stays, goes_on}
 use Rattle.separation.specs.Running.{Running}
 use Rattle.separation.proofs.Calling.{running_first}
+use Rattle.separation.proofs.Facts.{Facts, facts}
+use Rattle.separation.proofs.Steps.{own}
 use Rattle.separation.proofs.Unseen.{unseen_by}
 use Rattle.sample.specs.Memory.{Layout, memory, two, word_in}
 use Rattle.sample.specs.Verdicts.{here, there}
@@ -38,6 +44,27 @@ first_root : root (plan_of two) 0 ≡ 0
 unfolding plan_of rows
 first_root = refl
 
+two_partitions : (plan_of two).counts.partitions ≡ 2
+unfolding plan_of
+two_partitions = refl
+
+-- from the second partition a row of flows leads nowhere else
+leads_nowhere : (r : ℕ) → RowOfFlows (plan_of two) 1 r → r ≡ 1
+leads_nowhere r stays = refl
+leads_nowhere r (goes_on q t row flow) =
+    let k : flow.number ≡ 0 = omega (arith, flow.exists, one_channel) in
+    sym flow.receives ∙ ap (λ i. (channel (plan_of two) i).receiver.partition) k ∙ to_second
+
+no_row : RowOfFlows (plan_of two) 1 0 → ⊥
+no_row row = absurd (let e = leads_nowhere 0 row in omega (arith, e))
+
+-- all but the second partition is the first alone
+is_first : (q : ℕ) → q < (plan_of two).counts.partitions → AllBut 1 q → In first_alone q
+is_first q l m = elim (cases_eq q 0) [
+  | inl e ↦ eq-eqb q 0 e
+  | inr ne ↦ absurd (m (let n : 0 < q = omega (arith, ne) in omega (arith, l, two_partitions)))
+]
+
 closed : Closed (plan_of two) (In first_alone)
 closed q r flow m =
     let e = eqb-true r 0 m in
@@ -60,6 +87,39 @@ module _ (content other : ℕ → ℕ → ℕ) (code : (k : ℕ) → other 2 k �
     turn = refl;
   }
 
+  others_agree : Agree (plan_of two) (AllBut 1) (system_in here content) (system_in there other)
+  others_agree = record {
+    contexts = λ q l m. refl;
+    words = λ q f k l m. agree.words q f k l (is_first q l m);
+    tables = refl;
+    clock = refl;
+    turn = refl;
+  }
+
+  here_facts : Facts (plan_of two) (plan_in here content).ends (memory here content)
+  here_facts = facts two (memory here content) (plan_in here content) (examples.one content).verdict
+
+  there_facts : Facts (plan_of two) (plan_in there other).ends (memory there other)
+  there_facts = facts two (memory there other) (plan_in there other) (examples.other other).verdict
+
+  apart : TablesApart (memory here content) (root (plan_of two) 1)
+  apart f names kernel = here_facts.frames.separate.hidden 1 1 f (omega (arith, two_partitions)) (omega (arith, two_partitions)) names kernel
+
+  same_own : SameOwn (memory here content) (memory there other) (root (plan_of two) 0)
+  same_own = own (plan_of two) 0 (omega (arith, two_partitions)) (In first_alone) refl (memory here content) (memory there other) here_facts.frames there_facts.frames agree.words
+
+  same_way : (high low : ℕ) → high < 1024 → low < 1024 → SameWay (memory here content) (memory there other) (root (plan_of two) 0) high low
+  same_way high low bh bl =
+      let by : (table : ℕ) → Pointer (word (memory here content) (root (plan_of two) 0) high) table → PointsTo (memory here content) (root (plan_of two) 0) table =
+      λ table p. record { at = high; within = bh; points = p } in
+      record {
+        root_entry = same_own.tables (root (plan_of two) 0) high (inl refl) bh;
+        table_entry = λ table p. same_own.tables table low (inr (by table p)) bl;
+        root_lent = same_own.lent (root (plan_of two) 0) (inl (inl refl));
+        table_lent = λ table p. same_own.lent table (inl (inr (by table p)));
+        leaf_lent = λ table l p e. same_own.lent l.frame (inr (record { table = table; by = by table p; at = low; within = bl; valid = e.valid; names = e.frame }));
+      }
+
   pair : Pair content other
   pair = record {
     one_runs = one_runs;
@@ -69,7 +129,12 @@ module _ (content other : ℕ → ℕ → ℕ) (code : (k : ℕ) → other 2 k �
     tables_differ = differs content other;
     lent_differ = λ e. omega (arith, long here content, long there other, e);
     flow = record { number = 0; exists = omega (arith, one_channel); sends = from_first; receives = to_second };
-    unseen = unseen_by two (plan_in here content) (plan_in there other) (In first_alone) (system_in here content) (system_in there other) closed one_runs other_runs agree;
+    no_row = no_row;
+    others_agree = others_agree;
+    apart = apart;
+    same_own = same_own;
+    same_way = same_way;
+    unseen = unseen_by two (plan_in here content) (plan_in there other) (In first_alone) (system_in here content) (system_in there other) closed one_runs.before other_runs.before agree;
   }
 
 pub pairs : Pairs

@@ -1,0 +1,5 @@
+use Rattle.kernel.proofs.Printed.{eight_digits}
+use Rattle.kernel.proofs.report.laws.Goals as goal
+
+pub returns : goal.returns
+returns c = eight_digits
