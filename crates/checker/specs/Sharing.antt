@@ -1,5 +1,5 @@
 -- The rules on the frames that partitions name, as tests.
-use Rattle.std.specs.Prelude.{ℕ, Bool, not, ◌&&◌, ◌||◌, List, Option}
+use Rattle.std.specs.Prelude.{ℕ, ⊤, Bool, not, ◌&&◌, ◌||◌, List, Ok, Err, Option, Result}
 use Rattle.words.specs.First.{any}
 use Rattle.words.specs.Frames.{lent}
 use Rattle.plan.specs.declared.model.Plan.{Plan}
@@ -36,6 +36,11 @@ share_refusal words p k = broken_unless (apart_kept words p k) (FrameShared k)
 -- the marks of the partitions below a number
 abbrev pub Joined : (ℕ → ℕ → Bool) → Marks → ℕ → Type 0
 Joined by marks n = Shows marks (λ f. any (by f) n)
+
+-- whether marks are given, or the refusal
+abbrev pub cleared : Result Marks Refusal → Result ⊤ Refusal
+cleared (Ok named) = Ok tt
+cleared (Err e) = Err e
 
 abbrev pub missing_mark : List ℕ → Marks → ℕ → Bool
 missing_mark words marks f = marked marks f && not (lent words f)

@@ -49,10 +49,10 @@ fn first_refusal(bytes: &[u8], words: &[u32]) -> Result<Accepted, Refusal>
     check_pages(words, &plan)?;
     check_roots(words, &plan)?;
     check_tables(words, &plan)?;
-    check_sharing(words, &plan)?;
+    let named = check_sharing(words, &plan)?;
     plan.check_starts()?;
     plan.check_budget()?;
-    check_lent(words, &plan)?;
+    check_lent(words, &plan, &named)?;
     plan.check_end(bytes)?;
     Ok(Accepted {
         plan,

@@ -1,8 +1,8 @@
 // The rules on the frames that partitions name: none is named by two, none is a kernel frame, and all are lent.
 // Words and plan, or words and root, are two parameters, as lib.rt says.
-ghost use Rattle.std.specs.Prelude.{◌≡◌};
+ghost use Rattle.std.specs.Prelude.{◌≡◌, IfOk};
 ghost use Rattle.words.specs.First.{any, first, unless};
-ghost use Rattle.checker.specs.Sharing.{Joined, lent_refusal, missing_mark, named_at, share_refusal};
+ghost use Rattle.checker.specs.Sharing.{Joined, cleared, lent_refusal, missing_mark, named_at, share_refusal};
 
 use crate::claims::Claims;
 use crate::marks::Marks;
@@ -12,9 +12,10 @@ use plan::model::Plan;
 use plan::refusal::Refusal;
 use words::frames::is_lent;
 
-// Whether every frame that a partition names is its own, and none a kernel frame.
-pub(crate) fn check_sharing(words: &[u32], plan: &Plan) -> Result<(), Refusal>
-    ensures { result ≡ unless (first (share_refusal words.now plan.now) plan.now.counts.partitions) tt }
+// What is named, where every frame that a partition names is its own and none a kernel frame.
+pub(crate) fn check_sharing(words: &[u32], plan: &Plan) -> Result<Marks, Refusal>
+    ensures value { cleared result ≡ unless (first (share_refusal words.now plan.now) plan.now.counts.partitions) tt }
+    ensures named { IfOk result (λ named. Joined (named_at words.now plan.now) named plan.now.counts.partitions) }
 {
     // a loop and no chain, as for the marks
     let mut earlier = Claims::NONE;
@@ -25,18 +26,7 @@ pub(crate) fn check_sharing(words: &[u32], plan: &Plan) -> Result<(), Refusal>
         }
         earlier.add(&own);
     }
-    Ok(())
-}
-
-fn all_named(words: &[u32], plan: &Plan) -> Marks
-    ensures { Joined (named_at words.now plan.now) result plan.now.counts.partitions }
-{
-    let mut named = Marks::NONE;
-    // a loop for the same reason
-    for who in 0..plan.counts.partitions {
-        named.add(&Claims::of(words, root(plan, who)).named);
-    }
-    named
+    Ok(earlier.named)
 }
 
 fn has_missing(words: &[u32], named: &Marks) -> bool
@@ -45,11 +35,12 @@ fn has_missing(words: &[u32], named: &Marks) -> bool
     (0..MOST_FRAMES).any(|f| named.has(f) && !is_lent(words, f))
 }
 
-// Whether every frame that a partition names is lent.
-pub(crate) fn check_lent(words: &[u32], plan: &Plan) -> Result<(), Refusal>
+// Whether every frame that a partition names is lent. The marks are of what is named, so nothing is read again.
+pub(crate) fn check_lent(words: &[u32], plan: &Plan, named: &Marks) -> Result<(), Refusal>
+    requires { Joined (named_at words.now plan.now) named.now plan.now.counts.partitions }
     ensures { result ≡ unless (lent_refusal words.now plan.now) tt }
 {
-    if has_missing(words, &all_named(words, plan)) {
+    if has_missing(words, named) {
         return Err(Refusal::FramesMissing);
     }
     Ok(())

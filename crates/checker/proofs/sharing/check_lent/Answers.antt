@@ -4,7 +4,7 @@ use Rattle.checker.proofs.Shares.{missing_here}
 use Rattle.checker.proofs.sharing.check_lent.Goals as goal
 
 pub returns-then-has_missing : goal.returns-then-has_missing
-returns-then-has_missing c = ap (λ o. unless o tt) (sym (missing_here c.args.words.now c.args.plan.now c.all_named.result true c.all_named.ensures (sym c.if-has_missing.true ∙ c.has_missing.ensures)))
+returns-then-has_missing c = ap (λ o. unless o tt) (sym (missing_here c.args.words.now c.args.plan.now c.args.named.now true c.requires (sym c.if-has_missing.true ∙ c.has_missing.ensures)))
 
 pub returns : goal.returns
-returns c = ap (λ o. unless o tt) (sym (missing_here c.args.words.now c.args.plan.now c.all_named.result false c.all_named.ensures (sym c.if-has_missing.false ∙ c.has_missing.ensures)))
+returns c = ap (λ o. unless o tt) (sym (missing_here c.args.words.now c.args.plan.now c.args.named.now false c.requires (sym c.if-has_missing.false ∙ c.has_missing.ensures)))

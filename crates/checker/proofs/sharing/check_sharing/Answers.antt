@@ -1,9 +1,9 @@
-use Rattle.std.proofs.Common.{sym, ap, ◌∙◌, arith, rules}
+use Rattle.std.proofs.Common.{◌≡◌, sym, ap, ◌∙◌, subst, arith, rules}
 use Rattle.words.specs.First.{unless}
 use Rattle.words.proofs.First.{first_none, first_more, first_stays, checked_all}
 use Rattle.plan.specs.declared.refusal.Refusal.TheVariants.{FrameShared}
 use Rattle.checker.specs.Marks.{Shows}
-use Rattle.checker.specs.Sharing.{named_at, kernel_at, share_refusal}
+use Rattle.checker.specs.Sharing.{Joined, named_at, kernel_at, share_refusal}
 use Rattle.checker.proofs.Shares.{joined_none, joined_more, shared_here, apart_here}
 use Rattle.checker.proofs.sharing.check_sharing.Goals as goal
 
@@ -22,8 +22,11 @@ returns-then-clashes c =
     let own = c.of-own.result in
     let a : Shows own.named (λ f. named_at ws p f k) = λ f l. (let e = c.of-own.ensures.named f l in search rules) in
     let b : Shows own.kernel (λ f. kernel_at ws p f k) = λ f l. (let e = c.of-own.ensures.kernel f l in search rules) in
-    ap (λ o. unless o tt) (sym (first_stays (share_refusal ws p) k p.counts.partitions (FrameShared k) c.loop-k-test.true c.loop-k.invariant.0
-    (shared_here ws p k own c.loop-k.earlier a b c.loop-k.invariant.1 c.loop-k.invariant.2 (sym c.clashes.ensures ∙ c.if-clashes.true))))
+    record {
+      value = ap (λ o. unless o tt) (sym (first_stays (share_refusal ws p) k p.counts.partitions (FrameShared k) c.loop-k-test.true c.loop-k.invariant.0
+          (shared_here ws p k own c.loop-k.earlier a b c.loop-k.invariant.1 c.loop-k.invariant.2 (sym c.clashes.ensures ∙ c.if-clashes.true))));
+      named = tt;
+    }
 
 pub loop-k-preserved : goal.loop-k-preserved
 unfolding named_at kernel_at
@@ -40,4 +43,11 @@ loop-k-preserved c =
     )
 
 pub returns : goal.returns
-returns c = sym (checked_all (share_refusal c.args.words.now c.args.plan.now) c.loop-k.k c.args.plan.now.counts.partitions tt c.loop-k.invariant.0 (omega arith))
+returns c =
+    let ws = c.args.words.now in
+    let p = c.args.plan.now in
+    let at : c.loop-k.k ≡ p.counts.partitions = omega arith in
+    record {
+      value = sym (checked_all (share_refusal ws p) c.loop-k.k p.counts.partitions tt c.loop-k.invariant.0 at);
+      named = subst (Joined (named_at ws p) c.loop-k.earlier.named) at c.loop-k.invariant.1;
+    }
