@@ -7,7 +7,7 @@ use Rattle.plan.specs.declared.refusal.Refusal.{Refusal}
 use Rattle.plan.specs.Format.{plan_of, rows}
 use Rattle.plan.specs.Rules.{budget_fault, channel_fault, count_fault, longest, slot_fault, start_fault, surplus, truncated}
 use Rattle.checker.specs.declared.Accepted.{Accepted}
-use Rattle.checker.specs.Pages.{ends_or_none, no_ends, page_refusal}
+use Rattle.checker.specs.Pages.{ends_or_none, no_ends, ends_refusal}
 use Rattle.checker.specs.Roots.{root_refusal}
 use Rattle.checker.specs.Sharing.{lent_refusal, share_refusal}
 use Rattle.checker.specs.Tables.{table_refusal}
@@ -18,7 +18,7 @@ first_refusal bytes words p =
     (or_else (first (count_fault p.counts) 3)
     (or_else (first (slot_fault p) p.counts.slots)
     (or_else (first (channel_fault p) p.counts.channels)
-    (or_else (first (page_refusal words p) p.counts.channels)
+    (or_else (first (ends_refusal words p) p.counts.channels)
     (or_else (first (root_refusal words p) p.counts.partitions)
     (or_else (first (table_refusal words p) p.counts.partitions)
     (or_else (first (share_refusal words p) p.counts.partitions)

@@ -3,7 +3,8 @@
 
 ghost use Rattle.std.specs.Prelude.{◌≡◌};
 ghost use Rattle.checker.specs.Checked.{TellsAll, checked};
-ghost use Rattle.checker.specs.Found.{AcceptedSeparate, AcceptedUnshared, CheckedJudges, Judges};
+ghost use Rattle.checker.specs.Found.{AcceptedSeparate, AcceptedUnshared, CheckedJudges, Judges, OneFirst};
+ghost use Rattle.checker.specs.Lawful.{LeadsMaps};
 
 pub mod claims;
 pub mod fault;
@@ -60,10 +61,12 @@ fn first_refusal(bytes: &[u8], words: &[u32]) -> Result<Accepted, Refusal>
     })
 }
 
-// In an accepted plan no frame is named by two partitions, and no kernel frame by any, so no page leads there. A file is not read past the
-// longest plan.
+// A verdict is the only one, and stands on what pages map to. In an accepted plan no frame is named by two partitions, and no kernel frame
+// by any, so no page leads there. A file is not read past the longest plan.
 pub fn laws()
     ensures judges { CheckedJudges }
+    ensures one_first { OneFirst }
+    ensures leads { LeadsMaps }
     ensures separate { AcceptedSeparate }
     ensures unshared { AcceptedUnshared }
     ensures tells_all { TellsAll }

@@ -8,7 +8,7 @@ use Rattle.plan.proofs.Kept.{lawful_kept}
 use Rattle.plan.proofs.Rows.{rows_at}
 use Rattle.checker.specs.declared.Accepted.{Accepted}
 use Rattle.checker.specs.Checked.{accepted, checked}
-use Rattle.checker.specs.Found.{Finding, FirstFound, Found, Lawful, Sound, place_in, refusal_of, rule_of}
+use Rattle.checker.specs.Found.{Finding, FirstFound, Found, Lawful, Sound, found_at, refusal_of, rule_of}
 use Rattle.checker.specs.Found.Finding.{broken, pages_unread, tables_unread}
 use Rattle.checker.specs.Lawful.{AllLent, Apart, Conflict, root}
 use Rattle.checker.specs.Pages.{ends_or_none, no_ends}
@@ -128,7 +128,7 @@ module _ (content : ℕ → ℕ → ℕ) where
   found = (omega arith, not_apart_1)
 
   -- no other finding is as early
-  only : (g : Finding) → Found two (memory shared content) g → Earlier rule_of place_in g (broken (FrameShared 1)) → refusal_of g ≡ FrameShared 1
+  only : (g : Finding) → Found two (memory shared content) g → Earlier rule_of found_at g (broken (FrameShared 1)) → refusal_of g ≡ FrameShared 1
   unfolding Found
   only (broken (Truncated at)) b e = absurd (lawful_kept two plan_lawful (Truncated at) b)
   only (broken (CountRange c)) b e = absurd (lawful_kept two plan_lawful (CountRange c) b)
