@@ -129,7 +129,7 @@ module _ (ws : List ℕ) (r page : ℕ) where
     to_unlent b missing = second (Err NotLent) (step_stops (is_pointer (word ws r high)) _ _ pointer
         (subst (λ t. frame_fault ws t ≡ Some NotLent) (sym points.frame) (missing_unlent ws table b missing)))
 
-  leads_looked : (leaf : Leaf) → Leads ws r page leaf → looked_up ws r page ≡ Ok leaf
+  pub leads_looked : (leaf : Leaf) → Leads ws r page leaf → looked_up ws r page ≡ Ok leaf
   leads_looked leaf h = to_leaf h.high h.low h.table h.high_below h.low_below h.number h.root_there h.points leaf h.table_there h.leads h.frame_below
 
   unlent_unread : looked_up ws r page ≡ Err NotLent → PageUnread ws r page

@@ -8,7 +8,7 @@ use Rattle.plan.specs.Rules.{channel}
 use Rattle.checker.specs.declared.fault.Fault.{Fault}
 use Rattle.checker.specs.declared.fault.Fault.TheVariants.{Broken, NotLent}
 use Rattle.checker.specs.declared.pages.Ends.{Ends}
-use Rattle.checker.specs.Pages.{behind, both_ends, end_frame, ends_or_none, meets, page_fault, taken_fault, touch, touches}
+use Rattle.checker.specs.Pages.{behind, both_ends, end_frame, ends_or_none, meets, ends_fault, taken_fault, touch, touches}
 use Rattle.checker.specs.Lawful.{Joins, PagesFit, PagesUnread, Touch}
 use Rattle.checker.proofs.Ended.{end_unread, end_usable, unread_end, usable_end}
 
@@ -86,8 +86,8 @@ module _ (ws : List ℕ) (p : Plan) (k : ℕ) where
   taken_unlent (Err x) e = cc
   taken_unlent (Ok a) e = absurd (split_unlent (any (meets ws p a) k) e)
 
-  pub none_fit : page_fault ws p k ≡ None → PagesFit ws p k
-  unfolding page_fault meets
+  pub none_fit : ends_fault ws p k ≡ None → PagesFit ws p k
+  unfolding ends_fault meets
   none_fit e =
       let z = taken_none (behind ws p k) e in
       record {
@@ -98,20 +98,20 @@ module _ (ws : List ℕ) (p : Plan) (k : ℕ) where
             true≢false (sym (any_here (meets ws p z.0) k j l here) ∙ z.2);
       }
 
-  pub fit_none : PagesFit ws p k → page_fault ws p k ≡ None
-  unfolding page_fault meets
+  pub fit_none : PagesFit ws p k → ends_fault ws p k ≡ None
+  unfolding ends_fault meets
   fit_none h =
       let apart : any (meets ws p h.ends) k ≡ false = all_not (meets ws p h.ends) k (λ j l e.
       let z = touches_some h.ends (behind ws p j) e in
       h.alone j l z.0 (behind_joins ws p j z.0 z.1) (touch_tells h.ends z.0 z.2)) in
       rw (joins_behind ws p k h.ends h.joins) (rw apart refl)
 
-  pub unlent_unread : page_fault ws p k ≡ Some NotLent → PagesUnread ws p k
-  unfolding page_fault
+  pub unlent_unread : ends_fault ws p k ≡ Some NotLent → PagesUnread ws p k
+  unfolding ends_fault
   unlent_unread e = behind_unread ws p k (taken_unlent (behind ws p k) e)
 
-  pub unread_unlent : PagesUnread ws p k → page_fault ws p k ≡ Some NotLent
-  unfolding page_fault
+  pub unread_unlent : PagesUnread ws p k → ends_fault ws p k ≡ Some NotLent
+  unfolding ends_fault
   unread_unlent u = rw (unread_behind ws p k u) refl
 
   pub ends_kept : (a : Ends) → Joins ws p k a → ends_or_none ws p k ≡ a

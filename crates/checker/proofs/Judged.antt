@@ -20,16 +20,17 @@ use Rattle.checker.specs.declared.Accepted.{Accepted}
 use Rattle.checker.specs.declared.fault.Fault.{Fault}
 use Rattle.checker.specs.declared.fault.Fault.TheVariants.{Broken as RuleBroken, NotLent}
 use Rattle.checker.specs.Checked.{accepted, checked, first_refusal}
-use Rattle.checker.specs.Pages.{ends_or_none, no_ends, page_fault}
+use Rattle.checker.specs.Pages.{ends_or_none, no_ends, ends_fault}
 use Rattle.checker.specs.Roots.{root_kept}
 use Rattle.checker.specs.Sharing.{apart_kept, lent_kept}
 use Rattle.checker.specs.Tables.{root_fault}
 use Rattle.checker.specs.Lawful.{Apart, Formed, Leads, PagesFit, Usable, root}
-use Rattle.checker.specs.Found.{AcceptedSeparate, AcceptedUnshared, Behind, ChannelJoins, Finding, FirstFound, Found, Judges, Lawful, Separate, Sound, place_in, refusal_of, rule_of}
+use Rattle.checker.specs.Found.{AcceptedSeparate, AcceptedUnshared, Behind, ChannelJoins, Finding, FirstFound, Found, Judges, Lawful, Separate, Sound, found_at, refusal_of, rule_of}
 use Rattle.checker.specs.Found.Finding.{broken, pages_unread, tables_unread}
 use Rattle.checker.proofs.Forms as forms
 use Rattle.checker.proofs.Joined as joined
 use Rattle.checker.proofs.Conflicts.{apart_decides, lent_decides}
+use Rattle.checker.proofs.Leading.{leads_maps, named_leaf}
 use Rattle.checker.proofs.Staged.{Own, all_formed, found_own, lent_stage, lifted, pages_stage, root_decides, roots_stage, sharing_stage, tables_stage}
 
 between : (d : Finding) → (0 < rule_of d) × (rule_of d ≤ 12)
@@ -56,22 +57,22 @@ low : (n : ℕ) → n < 5 → Own n
 low n l = own n (inl l)
 
 module _ (bytes words : List ℕ) where
-  all : After rule_of place_in refusal_of (Found bytes words) (first_refusal bytes words (plan_of bytes)) 0
+  all : After rule_of found_at refusal_of (Found bytes words) (first_refusal bytes words (plan_of bytes)) 0
   unfolding first_refusal
   all =
       let high : (n : ℕ) → 8 < n → (n ≡ 11 → ⊥) → Own n = λ n l h. own n (inr (l, h)) in
-      chain rule_of place_in refusal_of (Found bytes words) _ _ 0 1 (omega arith) (λ d l b. omega arith) (lifted bytes words _ 1 (low 1 (omega arith)) (truncated_stage bytes)) (λ _.
-      chain rule_of place_in refusal_of (Found bytes words) _ _ 1 2 (omega arith) (λ d l b. omega arith) (lifted bytes words _ 2 (low 2 (omega arith)) (counts_stage bytes)) (λ _.
-      chain rule_of place_in refusal_of (Found bytes words) _ _ 2 3 (omega arith) (λ d l b. omega arith) (lifted bytes words _ 3 (low 3 (omega arith)) (slots_stage bytes)) (λ _.
-      chain rule_of place_in refusal_of (Found bytes words) _ _ 3 4 (omega arith) (λ d l b. omega arith) (lifted bytes words _ 4 (low 4 (omega arith)) (channels_stage bytes)) (λ _.
-      chain rule_of place_in refusal_of (Found bytes words) _ _ 4 5 (omega arith) (λ d l b. omega arith) (pages_stage bytes words) (λ _.
-      chain rule_of place_in refusal_of (Found bytes words) _ _ 5 6 (omega arith) (λ d l b. omega arith) (roots_stage bytes words) (λ _.
-      chain rule_of place_in refusal_of (Found bytes words) _ _ 6 7 (omega arith) (λ d l b. omega arith) (tables_stage bytes words) (λ formed.
-      chain rule_of place_in refusal_of (Found bytes words) _ _ 7 8 (omega arith) (λ d l b. omega arith) (sharing_stage bytes words (all_formed bytes words formed)) (λ _.
-      chain rule_of place_in refusal_of (Found bytes words) _ _ 8 9 (omega arith) (λ d l b. omega arith) (lifted bytes words _ 9 (high 9 (omega arith) (λ e. omega arith)) (starts_stage bytes)) (λ _.
-      chain rule_of place_in refusal_of (Found bytes words) _ _ 9 10 (omega arith) (λ d l b. omega arith) (lifted bytes words _ 10 (high 10 (omega arith) (λ e. omega arith)) (budget_stage bytes)) (λ _.
-      chain rule_of place_in refusal_of (Found bytes words) _ _ 10 11 (omega arith) (λ d l b. omega arith) (lent_stage bytes words (all_formed bytes words formed)) (λ _.
-      last rule_of place_in refusal_of (Found bytes words) _ 11 12 (omega arith) (λ d l b. omega (arith, (between d).1)) (lifted bytes words _ 12 (high 12 (omega arith) (λ e. omega arith)) (surplus_stage bytes)))))))))))))
+      chain rule_of found_at refusal_of (Found bytes words) _ _ 0 1 (omega arith) (λ d l b. omega arith) (lifted bytes words _ 1 (low 1 (omega arith)) (truncated_stage bytes)) (λ _.
+      chain rule_of found_at refusal_of (Found bytes words) _ _ 1 2 (omega arith) (λ d l b. omega arith) (lifted bytes words _ 2 (low 2 (omega arith)) (counts_stage bytes)) (λ _.
+      chain rule_of found_at refusal_of (Found bytes words) _ _ 2 3 (omega arith) (λ d l b. omega arith) (lifted bytes words _ 3 (low 3 (omega arith)) (slots_stage bytes)) (λ _.
+      chain rule_of found_at refusal_of (Found bytes words) _ _ 3 4 (omega arith) (λ d l b. omega arith) (lifted bytes words _ 4 (low 4 (omega arith)) (channels_stage bytes)) (λ _.
+      chain rule_of found_at refusal_of (Found bytes words) _ _ 4 5 (omega arith) (λ d l b. omega arith) (pages_stage bytes words) (λ _.
+      chain rule_of found_at refusal_of (Found bytes words) _ _ 5 6 (omega arith) (λ d l b. omega arith) (roots_stage bytes words) (λ _.
+      chain rule_of found_at refusal_of (Found bytes words) _ _ 6 7 (omega arith) (λ d l b. omega arith) (tables_stage bytes words) (λ formed.
+      chain rule_of found_at refusal_of (Found bytes words) _ _ 7 8 (omega arith) (λ d l b. omega arith) (sharing_stage bytes words (all_formed bytes words formed)) (λ _.
+      chain rule_of found_at refusal_of (Found bytes words) _ _ 8 9 (omega arith) (λ d l b. omega arith) (lifted bytes words _ 9 (high 9 (omega arith) (λ e. omega arith)) (starts_stage bytes)) (λ _.
+      chain rule_of found_at refusal_of (Found bytes words) _ _ 9 10 (omega arith) (λ d l b. omega arith) (lifted bytes words _ 10 (high 10 (omega arith) (λ e. omega arith)) (budget_stage bytes)) (λ _.
+      chain rule_of found_at refusal_of (Found bytes words) _ _ 10 11 (omega arith) (λ d l b. omega arith) (lent_stage bytes words (all_formed bytes words formed)) (λ _.
+      last rule_of found_at refusal_of (Found bytes words) _ 11 12 (omega arith) (λ d l b. omega (arith, (between d).1)) (lifted bytes words _ 12 (high 12 (omega arith) (λ e. omega arith)) (surplus_stage bytes)))))))))))))
 
   -- nothing is found where all rules are kept
   lawful_none : Lawful bytes words → (d : Finding) → Found bytes words d → ⊥
@@ -94,7 +95,7 @@ module _ (bytes words : List ℕ) where
       let e = forms.unread_unlent words r b.1 in let f = forms.formed_none words r (h.tables k b.0) in let z : ◌≡◌ {A = ℕ} 0 1 = cc in omega arith
 
   module _ (none : (d : Finding) → Found bytes words d → ⊥) where
-    fits_at : (k : ℕ) → k < (plan_of bytes).counts.channels → (o : Option Fault) → page_fault words (plan_of bytes) k ≡ o → PagesFit words (plan_of bytes) k
+    fits_at : (k : ℕ) → k < (plan_of bytes).counts.channels → (o : Option Fault) → ends_fault words (plan_of bytes) k ≡ o → PagesFit words (plan_of bytes) k
     unfolding Found
     fits_at k l None e = joined.none_fit words (plan_of bytes) k e
     fits_at k l (Some NotLent) e = absurd (none (pages_unread k) (l, joined.unlent_unread words (plan_of bytes) k e))
@@ -125,7 +126,7 @@ module _ (bytes words : List ℕ) where
     unfolding Found
     none_lawful = record {
       plan = kept_lawful bytes (λ d b. none (broken d) (found_own bytes words d b));
-      pages = λ k l. fits_at k l (page_fault words (plan_of bytes) k) refl;
+      pages = λ k l. fits_at k l (ends_fault words (plan_of bytes) k) refl;
       roots = λ k l. decided bytes (root_kept words (plan_of bytes) k) (root_decides bytes words (plan_of bytes) k) (λ f. none (broken (RootRule k)) (l, f));
       tables = all_formed_here;
       apart = λ a b la lb c. elim (cases_lt a b) [
@@ -136,30 +137,10 @@ module _ (bytes words : List ℕ) where
     }
 
   module _ (lawful : Lawful bytes words) where
-    named_leaf : (r page : ℕ) (leaf : Leaf) → Leads words r page leaf → Names words r leaf.frame
-    named_leaf r page leaf h = record {
-      table = h.table;
-      by = record { at = h.high; within = h.high_below; points = h.points };
-      at = h.low;
-      within = h.low_below;
-      valid = h.leads.valid;
-      names = h.leads.frame;
-    }
-
     maps_leaf : (k page : ℕ) (leaf : Leaf) → k < (plan_of bytes).counts.partitions → Leads words (root (plan_of bytes) k) page leaf → Maps words (root (plan_of bytes) k) page leaf
-    maps_leaf k page leaf l h = record {
-      high = h.high;
-      low = h.low;
-      table = h.table;
-      high_below = h.high_below;
-      low_below = h.low_below;
-      number = h.number;
-      points = h.points;
-      leads = h.leads;
-      root_there = h.root_there;
-      table_there = h.table_there;
-      frame_there = record { below = h.frame_below; lent = lawful.all_lent k leaf.frame l (named_leaf (root (plan_of bytes) k) page leaf h) };
-    }
+    maps_leaf k page leaf l h =
+        let r = root (plan_of bytes) k in
+        (leads_maps words r page leaf).maps h (lawful.all_lent k leaf.frame l (named_leaf words r page leaf h))
 
     behind_end : (end : Endpoint) (receives : Bool) (f : ℕ) → end.partition < (plan_of bytes).counts.partitions → Usable words (plan_of bytes) end receives f → Behind words (plan_of bytes) end f
     behind_end end receives f l u = record { leaf = u.leaf; maps = maps_leaf end.partition end.page u.leaf l u.leads; readable = u.readable; frame_is = u.frame_is }

@@ -6,5 +6,7 @@ pub mod Conflicts
 pub mod Ended
 pub mod Joined
 pub mod Staged
+pub mod Leading
 pub mod Judged
+pub mod Alike
 pub mod Front

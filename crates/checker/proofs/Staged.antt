@@ -14,12 +14,12 @@ use Rattle.plan.proofs.Stages.{PlanStage, at_number}
 use Rattle.checker.specs.declared.fault.Fault.{Fault}
 use Rattle.checker.specs.declared.fault.Fault.TheVariants.{Broken as RuleBroken, NotLent}
 use Rattle.checker.specs.Faults.{refused_by}
-use Rattle.checker.specs.Pages.{page_fault, page_refusal}
+use Rattle.checker.specs.Pages.{ends_fault, ends_refusal}
 use Rattle.checker.specs.Roots.{root_kept, root_refusal, same_root}
 use Rattle.checker.specs.Sharing.{apart_kept, lent_kept, lent_refusal, share_refusal}
 use Rattle.checker.specs.Tables.{root_fault, table_refusal}
 use Rattle.checker.specs.Lawful.{Apart, Formed, PagesFit, PagesUnread, RootFits, TablesUnread, root}
-use Rattle.checker.specs.Found.{Finding, Found, place_in, refusal_of, rule_of}
+use Rattle.checker.specs.Found.{Finding, Found, found_at, refusal_of, rule_of}
 use Rattle.checker.specs.Found.Finding.{broken, pages_unread, tables_unread}
 use Rattle.checker.proofs.Forms.{formed_none, none_formed}
 use Rattle.checker.proofs.Forms as forms
@@ -27,7 +27,7 @@ use Rattle.checker.proofs.Joined as joined
 use Rattle.checker.proofs.Conflicts.{apart_decides, lent_decides}
 
 abbrev pub Staged : List ℕ → List ℕ → Option Refusal → ℕ → Type 0
-Staged bytes words s n = Stage rule_of place_in refusal_of (Found bytes words) s n
+Staged bytes words s n = Stage rule_of found_at refusal_of (Found bytes words) s n
 
 -- the numbers of the rules that need no memory
 abbrev pub Own : ℕ → Type 0
@@ -75,22 +75,22 @@ module _ (bytes words : List ℕ) where
       q.1,
       found_own q.0 q.2,
       q.3,
-      λ g r b. let z = own_found n own g r b in subst (λ x. place_of q.0 ≤ place_in x) (sym z.1) (q.4 z.0 (sym (ap rule_of z.1) ∙ r) z.2),
+      λ g r b. let z = own_found n own g r b in subst (λ x. place_of q.0 ≤ found_at x) (sym z.1) (q.4 z.0 (sym (ap rule_of z.1) ∙ r) z.2),
     );
   }
 
   -- the findings of a rule
-  one_kind : (n : ℕ) → (n ≡ 5 → ⊥) → (n ≡ 7 → ⊥) → (d : Finding) → rule_of d ≡ n → d ≡ broken (refusal n (place_in d))
+  one_kind : (n : ℕ) → (n ≡ 5 → ⊥) → (n ≡ 7 → ⊥) → (d : Finding) → rule_of d ≡ n → d ≡ broken (refusal n (found_at d))
   one_kind n not_5 not_7 (broken e) r = ap broken (at_number e n r)
   one_kind n not_5 not_7 (pages_unread k) r = absurd (not_5 (sym r))
   one_kind n not_5 not_7 (tables_unread k) r = absurd (not_7 (sym r))
 
-  kinds_5 : (d : Finding) → rule_of d ≡ 5 → (d ≡ broken (ChannelPage (place_in d))) ⊎ (d ≡ pages_unread (place_in d))
+  kinds_5 : (d : Finding) → rule_of d ≡ 5 → (d ≡ broken (ChannelPage (found_at d))) ⊎ (d ≡ pages_unread (found_at d))
   kinds_5 (broken e) r = inl (ap broken (at_number e 5 r))
   kinds_5 (pages_unread k) r = inr refl
   kinds_5 (tables_unread k) r = absurd (omega (arith, r))
 
-  kinds_7 : (d : Finding) → rule_of d ≡ 7 → (d ≡ broken (TableMalformed (place_in d))) ⊎ (d ≡ tables_unread (place_in d))
+  kinds_7 : (d : Finding) → rule_of d ≡ 7 → (d ≡ broken (TableMalformed (found_at d))) ⊎ (d ≡ tables_unread (found_at d))
   kinds_7 (broken e) r = inl (ap broken (at_number e 7 r))
   kinds_7 (pages_unread k) r = absurd (omega (arith, r))
   kinds_7 (tables_unread k) r = inr refl
@@ -106,23 +106,23 @@ module _ (bytes words : List ℕ) where
 
   -- a rule whose check at a place may need a frame that is not lent
   module _ (n many : ℕ) (fault : ℕ → Option Fault) (E : ℕ → Refusal) (U : ℕ → Finding) (Fit Unread : ℕ → Type 0)
-      (kinds : (d : Finding) → rule_of d ≡ n → (d ≡ broken (E (place_in d))) ⊎ (d ≡ U (place_in d)))
+      (kinds : (d : Finding) → rule_of d ≡ n → (d ≡ broken (E (found_at d))) ⊎ (d ≡ U (found_at d)))
       (e_rule : (k : ℕ) → number_of (E k) ≡ n) (e_place : (k : ℕ) → place_of (E k) ≡ k)
-      (u_rule : (k : ℕ) → rule_of (U k) ≡ n) (u_place : (k : ℕ) → place_in (U k) ≡ k) (u_says : (k : ℕ) → refusal_of (U k) ≡ FramesMissing)
+      (u_rule : (k : ℕ) → rule_of (U k) ≡ n) (u_place : (k : ℕ) → found_at (U k) ≡ k) (u_says : (k : ℕ) → refusal_of (U k) ≡ FramesMissing)
       (found_e : (k : ℕ) → k < many → (Unread k → ⊥) → (Fit k → ⊥) → Found bytes words (broken (E k)))
       (e_found : (k : ℕ) → Found bytes words (broken (E k)) → (k < many) × (Unread k → ⊥) × (Fit k → ⊥))
       (found_u : (k : ℕ) → k < many → Unread k → Found bytes words (U k))
       (u_found : (k : ℕ) → Found bytes words (U k) → (k < many) × Unread k)
       (none_fit : (k : ℕ) → fault k ≡ None → Fit k) (fit_none : (k : ℕ) → Fit k → fault k ≡ None)
       (unlent_unread : (k : ℕ) → fault k ≡ Some NotLent → Unread k) (unread_unlent : (k : ℕ) → Unread k → fault k ≡ Some NotLent) where
-    at_none : (k : ℕ) → fault k ≡ None → (d : Finding) → rule_of d ≡ n → place_in d ≡ k → Found bytes words d → ⊥
+    at_none : (k : ℕ) → fault k ≡ None → (d : Finding) → rule_of d ≡ n → found_at d ≡ k → Found bytes words d → ⊥
     at_none k h d r s b = elim (kinds d r) [
-      | inl is ↦ (e_found (place_in d) (subst (Found bytes words) is b)).2 (subst Fit (sym s) (none_fit k h))
-      | inr is ↦ absurd (let u = unread_unlent k (subst Unread s (u_found (place_in d) (subst (Found bytes words) is b)).1) in
+      | inl is ↦ (e_found (found_at d) (subst (Found bytes words) is b)).2 (subst Fit (sym s) (none_fit k h))
+      | inr is ↦ absurd (let u = unread_unlent k (subst Unread s (u_found (found_at d) (subst (Found bytes words) is b)).1) in
           let z : ◌≡◌ {A = ℕ} 0 1 = cc in omega arith)
     ]
 
-    at_some : (k : ℕ) (e : Refusal) → k < many → refused_by (E k) (fault k) ≡ Some e → (f : Finding) × (refusal_of f ≡ e) × Found bytes words f × (rule_of f ≡ n) × (place_in f ≡ k)
+    at_some : (k : ℕ) (e : Refusal) → k < many → refused_by (E k) (fault k) ≡ Some e → (f : Finding) × (refusal_of f ≡ e) × Found bytes words f × (rule_of f ≡ n) × (found_at f ≡ k)
     at_some k e l h = elim (refused_some (E k) e (fault k) h) [
       | inl g ↦ (
         broken (E k),
@@ -136,17 +136,17 @@ module _ (bytes words : List ℕ) where
     ]
 
     faults : Staged bytes words (first (λ k. refused_by (E k) (fault k)) many) n
-    faults = places rule_of place_in refusal_of (Found bytes words) n many (λ k. refused_by (E k) (fault k))
+    faults = places rule_of found_at refusal_of (Found bytes words) n many (λ k. refused_by (E k) (fault k))
         (λ k l h d r s b. at_none k (refused_none (E k) (fault k) h) d r s b)
         at_some
         (λ d r b. elim (kinds d r) [
-          | inl is ↦ (e_found (place_in d) (subst (Found bytes words) is b)).0
-          | inr is ↦ (u_found (place_in d) (subst (Found bytes words) is b)).0
+          | inl is ↦ (e_found (found_at d) (subst (Found bytes words) is b)).0
+          | inr is ↦ (u_found (found_at d) (subst (Found bytes words) is b)).0
         ])
 
-  pub pages_stage : Staged bytes words (first (page_refusal words (plan_of bytes)) (plan_of bytes).counts.channels) 5
+  pub pages_stage : Staged bytes words (first (ends_refusal words (plan_of bytes)) (plan_of bytes).counts.channels) 5
   unfolding Found
-  pages_stage = faults 5 (plan_of bytes).counts.channels (page_fault words (plan_of bytes)) ChannelPage pages_unread (PagesFit words (plan_of bytes)) (PagesUnread words (plan_of bytes))
+  pages_stage = faults 5 (plan_of bytes).counts.channels (ends_fault words (plan_of bytes)) ChannelPage pages_unread (PagesFit words (plan_of bytes)) (PagesUnread words (plan_of bytes))
       kinds_5 (λ k. refl) (λ k. refl) (λ k. refl) (λ k. refl) (λ k. refl)
       (λ k l u f. (l, u, f)) (λ k b. b) (λ k l u. (l, u)) (λ k b. b)
       (joined.none_fit words (plan_of bytes)) (joined.fit_none words (plan_of bytes)) (joined.unlent_unread words (plan_of bytes)) (joined.unread_unlent words (plan_of bytes))
@@ -181,14 +181,14 @@ module _ (bytes words : List ℕ) where
 
   pub roots_stage : Staged bytes words (first (root_refusal words (plan_of bytes)) (plan_of bytes).counts.partitions) 6
   unfolding Found
-  roots_stage = each rule_of place_in refusal_of (Found bytes words) 6 (plan_of bytes).counts.partitions (λ k. broken (RootRule k)) (root_kept words (plan_of bytes)) (RootFits words (plan_of bytes))
+  roots_stage = each rule_of found_at refusal_of (Found bytes words) 6 (plan_of bytes).counts.partitions (λ k. broken (RootRule k)) (root_kept words (plan_of bytes)) (RootFits words (plan_of bytes))
       (λ k. refl) (λ k l. refl) (λ k l. root_decides (plan_of bytes) k)
       (λ k l f. (l, f)) (λ d r b. subst (Found bytes words) (one_kind 6 (λ e. omega arith) (λ e. omega arith) d r) b)
 
   module _ (ok : (k : ℕ) → k < (plan_of bytes).counts.partitions → Formed words (root (plan_of bytes) k)) where
     pub sharing_stage : Staged bytes words (first (share_refusal words (plan_of bytes)) (plan_of bytes).counts.partitions) 8
     unfolding Found
-    sharing_stage = each rule_of place_in refusal_of (Found bytes words) 8 (plan_of bytes).counts.partitions (λ k. broken (FrameShared k)) (apart_kept words (plan_of bytes)) (Apart words (plan_of bytes))
+    sharing_stage = each rule_of found_at refusal_of (Found bytes words) 8 (plan_of bytes).counts.partitions (λ k. broken (FrameShared k)) (apart_kept words (plan_of bytes)) (Apart words (plan_of bytes))
         (λ k. refl) (λ k l. refl) (λ k l. apart_decides words (plan_of bytes) k (λ q h. ok q (omega arith)))
         (λ k l f. (l, f)) (λ d r b. subst (Found bytes words) (one_kind 8 (λ e. omega arith) (λ e. omega arith) d r) b)
 
@@ -196,7 +196,7 @@ module _ (bytes words : List ℕ) where
     unfolding Found
     lent_stage =
         let decides = lent_decides words (plan_of bytes) ok in
-        single rule_of place_in refusal_of (Found bytes words) 11 (lent_kept words (plan_of bytes)) (broken FramesMissing) refl
+        single rule_of found_at refusal_of (Found bytes words) 11 (lent_kept words (plan_of bytes)) (broken FramesMissing) refl
         (λ d r b. one_kind 11 (λ e. omega arith) (λ e. omega arith) d r)
         (λ e b. b (decides.0 e))
         (λ e f. both_ways (lent_kept words (plan_of bytes)) e (decides.1 f))

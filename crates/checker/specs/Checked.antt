@@ -8,7 +8,7 @@ use Rattle.plan.specs.declared.refusal.Refusal.{Refusal}
 use Rattle.plan.specs.Format.{plan_of, rows}
 use Rattle.plan.specs.Rules.{budget_fault, channel_fault, count_fault, longest, slot_fault, start_fault, surplus, truncated}
 use Rattle.checker.specs.declared.Accepted.{Accepted}
-use Rattle.checker.specs.Pages.{ends_or_none, no_ends, page_refusal}
+use Rattle.checker.specs.Pages.{ends_or_none, no_ends, ends_refusal}
 use Rattle.checker.specs.Roots.{root_refusal}
 use Rattle.checker.specs.Sharing.{lent_refusal, share_refusal}
 use Rattle.checker.specs.Tables.{table_refusal}
@@ -19,7 +19,7 @@ first_refusal bytes words p =
     (option_or (first (count_fault p.counts) 3)
     (option_or (first (slot_fault p) p.counts.slots)
     (option_or (first (channel_fault p) p.counts.channels)
-    (option_or (first (page_refusal words p) p.counts.channels)
+    (option_or (first (ends_refusal words p) p.counts.channels)
     (option_or (first (root_refusal words p) p.counts.partitions)
     (option_or (first (table_refusal words p) p.counts.partitions)
     (option_or (first (share_refusal words p) p.counts.partitions)

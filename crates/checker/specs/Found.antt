@@ -30,10 +30,10 @@ rule_of (broken e) = number_of e
 rule_of (pages_unread k) = 5
 rule_of (tables_unread k) = 7
 
-abbrev pub place_in : Finding → ℕ
-place_in (broken e) = place_of e
-place_in (pages_unread k) = k
-place_in (tables_unread k) = k
+abbrev pub found_at : Finding → ℕ
+found_at (broken e) = place_of e
+found_at (pages_unread k) = k
+found_at (tables_unread k) = k
 
 -- the refusal that it leads to
 abbrev pub refusal_of : Finding → Refusal
@@ -64,7 +64,11 @@ pub record FirstFound (bytes words : List ℕ) (e : Refusal) : Type 0 where
   pub finding : Finding
   pub leads_to : refusal_of finding ≡ e
   pub found : Found bytes words finding
-  pub first : (d : Finding) → Found bytes words d → Earlier rule_of place_in finding d
+  pub first : (d : Finding) → Found bytes words d → Earlier rule_of found_at finding d
+
+-- one refusal at most is the first
+abbrev pub OneFirst : Type 0
+OneFirst = (bytes words : List ℕ) (e d : Refusal) → FirstFound bytes words e → FirstFound bytes words d → e ≡ d
 
 -- a plan and lent words that keep every rule
 pub record Lawful (bytes words : List ℕ) : Type 0 where

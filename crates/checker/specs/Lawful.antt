@@ -1,9 +1,10 @@
--- The rules on frames, each a sentence of its own. No order of steps, no loop and no mark stands in them.
-use Rattle.std.specs.Prelude.{◌≡◌, ℕ, ◌+◌, ◌*◌, ◌/◌, ◌<◌, ◌≤◌, Bool, true, false, ◌≢◌, ◌⊎◌, List, length}
+-- The rules on frames, each a sentence of its own. No loop and no mark stands in them. An order of reading stands in `PagesUnread` and
+-- `TablesUnread` alone, which say when a frame that is not lent stops a rule.
+use Rattle.std.specs.Prelude.{◌≡◌, ℕ, ◌+◌, ◌*◌, ◌/◌, ◌^◌, ◌<◌, ◌≤◌, Bool, true, false, ◌≢◌, ◌⊎◌, List, length}
 use Rattle.words.specs.Frames.{word}
 use Rattle.paging.specs.declared.leaf.Leaf.{Leaf}
 use Rattle.paging.specs.Entries.{frame_of, is_leaf, is_valid}
-use Rattle.paging.specs.Mapping.{InMemory, LeafEntry, Pointer}
+use Rattle.paging.specs.Mapping.{InMemory, LeafEntry, Maps, Pointer}
 use Rattle.paging.specs.Tables.{KernelFrame, Names}
 use Rattle.plan.specs.declared.model.Endpoint.{Endpoint}
 use Rattle.plan.specs.declared.model.Plan.{Plan}
@@ -58,9 +59,17 @@ pub record Leads (words : List ℕ) (root page : ℕ) (leaf : Leaf) : Type 0 whe
   pub table_there : InMemory words table
   pub frame_below : leaf.frame < 256
 
+-- a page maps to a leaf if and only if it leads to it and the leaf's frame is lent
+pub record LeadsAsMapped (words : List ℕ) (root page : ℕ) (leaf : Leaf) : Type 0 where
+  pub maps : Leads words root page leaf → Lent words leaf.frame → Maps words root page leaf
+  pub leads : Maps words root page leaf → Leads words root page leaf
+
+abbrev pub LeadsMaps : Type 0
+LeadsMaps = (words : List ℕ) (root page : ℕ) (leaf : Leaf) → LeadsAsMapped words root page leaf
+
 -- it cannot be looked up: the root, or the table that it leads to, is one of the 256 frames and not lent
 pub data PageUnread (words : List ℕ) (root page : ℕ) : Type 0 where
-  no_root : page < 1048576 → root < 256 → (Lent words root → ⊥) → PageUnread words root page
+  no_root : page < 2 ^ 20 → root < 256 → (Lent words root → ⊥) → PageUnread words root page
   no_table : (high low table : ℕ) → high < 1024 → low < 1024 → page ≡ high * 1024 + low → InMemory words root →
       Pointer (word words root high) table → table < 256 → (Lent words table → ⊥) → PageUnread words root page
 

@@ -65,11 +65,11 @@ abbrev pub taken_fault : List ℕ → Plan → ℕ → Result Ends Fault → Opt
 taken_fault words p k (Ok a) = cond (any (meets words p a) k) (Some Broken) None
 taken_fault words p k (Err fault) = Some fault
 
-unfoldable pub page_fault : List ℕ → Plan → ℕ → Option Fault
-page_fault words p k = taken_fault words p k (behind words p k)
+unfoldable pub ends_fault : List ℕ → Plan → ℕ → Option Fault
+ends_fault words p k = taken_fault words p k (behind words p k)
 
-abbrev pub page_refusal : List ℕ → Plan → ℕ → Option Refusal
-page_refusal words p k = refused_by (ChannelPage k) (page_fault words p k)
+abbrev pub ends_refusal : List ℕ → Plan → ℕ → Option Refusal
+ends_refusal words p k = refused_by (ChannelPage k) (ends_fault words p k)
 
 abbrev pub no_ends : Ends
 no_ends = record { sender = 0; receiver = 0 }

@@ -3,7 +3,8 @@
 
 ghost use Rattle.std.specs.Prelude.{◌≡◌};
 ghost use Rattle.checker.specs.Checked.{TellsAll, checked};
-ghost use Rattle.checker.specs.Found.{AcceptedSeparate, AcceptedUnshared, CheckedJudges, Judges};
+ghost use Rattle.checker.specs.Found.{AcceptedSeparate, AcceptedUnshared, CheckedJudges, Judges, OneFirst};
+ghost use Rattle.checker.specs.Lawful.{LeadsMaps};
 
 pub mod claims;
 pub mod fault;
@@ -15,8 +16,7 @@ pub mod tables;
 
 use crate::pages::{Ends, all_ends, check_pages};
 use crate::roots::check_roots;
-use crate::sharing::{check_lent, check_sharing};
-use crate::tables::check_tables;
+use crate::sharing::Naming;
 use plan::model::{MOST_CHANNELS, Plan};
 use plan::refusal::Refusal;
 
@@ -48,11 +48,11 @@ fn first_refusal(bytes: &[u8], words: &[u32]) -> Result<Accepted, Refusal>
     plan.check_channels()?;
     check_pages(words, &plan)?;
     check_roots(words, &plan)?;
-    check_tables(words, &plan)?;
-    check_sharing(words, &plan)?;
+    let naming = Naming::check_tables(words, &plan)?;
+    naming.check_shared()?;
     plan.check_starts()?;
     plan.check_budget()?;
-    check_lent(words, &plan)?;
+    naming.check_lent(words, &plan)?;
     plan.check_end(bytes)?;
     Ok(Accepted {
         plan,
@@ -60,10 +60,12 @@ fn first_refusal(bytes: &[u8], words: &[u32]) -> Result<Accepted, Refusal>
     })
 }
 
-// In an accepted plan no frame is named by two partitions, and no kernel frame by any, so no page leads there. A file is not read past the
-// longest plan.
+// A verdict is the only one, and stands on what pages map to. In an accepted plan no frame is named by two partitions, and no kernel frame
+// by any, so no page leads there. A file is not read past the longest plan.
 pub fn laws()
     ensures judges { CheckedJudges }
+    ensures one_first { OneFirst }
+    ensures leads { LeadsMaps }
     ensures separate { AcceptedSeparate }
     ensures unshared { AcceptedUnshared }
     ensures tells_all { TellsAll }

@@ -4,7 +4,7 @@
 ghost use Rattle.std.specs.Prelude.{◌≡◌, cond, nat_lt};
 ghost use Rattle.plan.specs.Format.{rows};
 ghost use Rattle.words.specs.First.{any, first, unless};
-ghost use Rattle.checker.specs.Pages.{behind, end_frame, ends_or_none, looked_up, meets, no_ends, page_fault, page_refusal, touch};
+ghost use Rattle.checker.specs.Pages.{behind, end_frame, ends_or_none, looked_up, meets, no_ends, ends_fault, ends_refusal, touch};
 
 use crate::fault::{Fault, check_frame};
 use crate::roots::root;
@@ -92,9 +92,9 @@ fn is_taken(words: &[u32], plan: &Plan, ours: Ends, k: u8) -> bool
     (0..k).any(|j| meets(words, plan, ours, j))
 }
 
-#[tactic(auto, unfolding(crate::specs::Pages::page_fault))]
+#[tactic(auto, unfolding(crate::specs::Pages::ends_fault))]
 fn check_pages_at(words: &[u32], plan: &Plan, k: u8) -> Result<(), Fault>
-    ensures { result ≡ unless (page_fault words.now plan.now k) tt }
+    ensures { result ≡ unless (ends_fault words.now plan.now k) tt }
 {
     let ours = behind(words, plan, k)?;
     if is_taken(words, plan, ours, k) {
@@ -104,14 +104,14 @@ fn check_pages_at(words: &[u32], plan: &Plan, k: u8) -> Result<(), Fault>
 }
 
 fn check_pages_of(words: &[u32], plan: &Plan, k: u8) -> Result<(), Refusal>
-    ensures { result ≡ unless (page_refusal words.now plan.now k) tt }
+    ensures { result ≡ unless (ends_refusal words.now plan.now k) tt }
 {
     check_pages_at(words, plan, k).map_err(|fault| fault.refusal(Refusal::ChannelPage(k)))
 }
 
 // Whether both partitions of every channel may use its pages as said.
 pub(crate) fn check_pages(words: &[u32], plan: &Plan) -> Result<(), Refusal>
-    ensures { result ≡ unless (first (page_refusal words.now plan.now) plan.now.counts.channels) tt }
+    ensures { result ≡ unless (first (ends_refusal words.now plan.now) plan.now.counts.channels) tt }
 {
     (0..plan.counts.channels).try_for_each(|k| check_pages_of(words, plan, k))
 }
