@@ -1,14 +1,9 @@
 -- An image of memory: a count of frames in two bytes, low byte first, then the frames, each 1,024 words of four bytes.
-use Rattle.std.specs.Prelude.{◌≡◌, ℕ, ◌+◌, ◌-◌, ◌*◌, ◌/◌, ◌<◌, ◌≤◌, min, cond, ◌⊎◌, List, map, length, take, Some, None, Ok, Err, Option, Result, MatchResult, nat_lt}
+use Rattle.std.specs.Prelude.{◌≡◌, ℕ, ◌+◌, ◌-◌, ◌*◌, ◌/◌, ◌<◌, ◌≤◌, min, cond, ◌⊎◌, List, map, length, take, Some, None, Option, nat_lt}
 use Rattle.std.specs.List.{range_with_len}
 use Rattle.words.specs.Bytes.{byte, number}
-use Rattle.words.specs.First.{unless}
-use Rattle.plan.specs.declared.model.Plan.{Plan}
 use Rattle.plan.specs.declared.refusal.Refusal.{Refusal}
 use Rattle.plan.specs.declared.refusal.Refusal.TheVariants.{FramesMissing, Surplus}
-use Rattle.plan.specs.Format.{plan_of}
-use Rattle.plan.specs.Rules.{parsed}
-use Rattle.plan.specs.Lawful.{Lawful, FirstBroken}
 
 -- the frames that it counts
 abbrev pub counted : List ℕ → ℕ
@@ -43,22 +38,6 @@ abbrev pub ImageBroken : List ℕ → Refusal → Type 0
 ImageBroken image e =
     ((length image < image_size (counted image)) × (e ≡ FramesMissing))
     ⊎ ((image_size (counted image) < length image) × (e ≡ Surplus (image_size (counted image))))
-
--- an answer, unless a later rule is broken
-abbrev pub followed_by : {X E : Type 0} → Result X E → Option E → Result X E
-followed_by (Ok x) o = unless o x
-followed_by (Err e) o = Err e
-
--- a plan with its image: the plan's rules first
-unfoldable pub admitted : List ℕ → List ℕ → Result Plan Refusal
-admitted bytes image = followed_by (parsed bytes) (image_fault image)
-
--- what a verdict on both has to be
-pub record Admits (bytes image : List ℕ) (r : Result Plan Refusal) : Type 0 where
-  pub accepts : Lawful bytes → Whole image → r ≡ Ok (plan_of bytes)
-  pub cases : MatchResult r
-      (λ p. Lawful bytes × Whole image × (p ≡ plan_of bytes))
-      (λ e. FirstBroken bytes e ⊎ (Lawful bytes × ImageBroken image e))
 
 -- the longest image that a count can ask for ends within so many bytes
 abbrev pub longest : ℕ

@@ -1,13 +1,11 @@
 // An image of memory: a count of frames in two bytes, low byte first, then the frames, each 1,024 words of four bytes.
 #![tactic(auto)]
 
-ghost use Rattle.std.specs.Prelude.{◌≡◌, IfOk};
+ghost use Rattle.std.specs.Prelude.{◌≡◌, IfOk, MatchResult};
 ghost use Rattle.words.specs.First.{unless};
-ghost use Rattle.image.specs.Frames.{Admits, TellsAll, admitted, image_fault, image_words, lent_frames, longest};
+ghost use Rattle.image.specs.Frames.{ImageBroken, TellsAll, Whole, image_fault, image_words, lent_frames, longest};
 
-use plan::model::Plan;
 use plan::refusal::Refusal;
-use plan::rules::parse;
 use std::alloc::{AllocError, Global};
 use words::bytes::{u16_at, u32_at};
 use words::frames::FRAME_WORDS;
@@ -41,8 +39,10 @@ pub fn load(heap: Global, image: &[u8]) -> Result<Vec<u32>, AllocError>
 }
 
 // Whether the image has as many bytes as it counts frames, no fewer and no more.
+#[tactic(auto, using(crate::proofs::Verdict::told_as))]
 pub fn check(image: &[u8]) -> Result<(), Refusal>
-    ensures { result ≡ unless (image_fault image.now) tt }
+    ensures value { result ≡ unless (image_fault image.now) tt }
+    ensures verdict { MatchResult result (λ _. Whole image.now) (ImageBroken image.now) }
 {
     let size = HEADER + FRAME * usize::from(u16_at(image, 0));
     if image.len() < size {
@@ -52,17 +52,6 @@ pub fn check(image: &[u8]) -> Result<(), Refusal>
         return Err(Refusal::Surplus(size));
     }
     Ok(())
-}
-
-// The plan that the bytes say, or the first rule that they break, and after those the image's own.
-#[tactic(auto, unfolding(crate::specs::Frames::admitted), using(crate::proofs::Verdict::verdict_as))]
-pub fn admit(plan: &[u8], image: &[u8]) -> Result<Plan, Refusal>
-    ensures value { result ≡ admitted plan.now image.now }
-    ensures verdict { Admits plan.now image.now result }
-{
-    let plan = parse(plan)?;
-    check(image)?;
-    Ok(plan)
 }
 
 // A file is not read past its longest image: nothing there changes a verdict or a lent word.
