@@ -1,4 +1,4 @@
-// operate PLAN IMAGE SLOTS, operate PLAN IMAGE --slots N: prints a line for each slot of a run, as it goes.
+// run PLAN IMAGE SLOTS, run PLAN IMAGE --slots N: prints a line for each slot of a run, as it goes.
 #![tactic(auto)]
 
 use console::arguments::{argument, arguments, asks_help, at_most, is_word};
@@ -14,15 +14,15 @@ use std::process::ExitCode;
 use std::{io, iter};
 
 const PROGRAM: Program = Program {
-    name: "operate",
-    usage: "operate PLAN IMAGE SLOTS [--last], or operate PLAN IMAGE --slots N [--last]",
+    name: "run",
+    usage: "run PLAN IMAGE SLOTS [--last], or run PLAN IMAGE --slots N [--last]",
 };
 
 fn main(rt: HostRuntime) -> ExitCode {
-    PROGRAM.exit_code(&rt, operate(&rt))
+    PROGRAM.exit_code(&rt, run(&rt))
 }
 
-fn operate(rt: &HostRuntime) -> Result<(), Problem> {
+fn run(rt: &HostRuntime) -> Result<(), Problem> {
     let words = arguments(rt)?;
     if asks_help(&words) {
         return Ok(println!(rt; "usage: {}", PROGRAM.usage)?);

@@ -1,4 +1,4 @@
-// judge PLAN IMAGE: prints 'accepted', or the refusal of the first rule that the plan or its image breaks.
+// check PLAN IMAGE: prints 'accepted', or the refusal of the first rule that the plan or its image breaks.
 #![tactic(auto)]
 
 use console::arguments::{argument, arguments, asks_help, at_most, is_word};
@@ -7,15 +7,15 @@ use console::problem::{Problem, Program, VERSION};
 use std::process::ExitCode;
 
 const PROGRAM: Program = Program {
-    name: "judge",
-    usage: "judge PLAN IMAGE",
+    name: "check",
+    usage: "check PLAN IMAGE",
 };
 
 fn main(rt: HostRuntime) -> ExitCode {
-    PROGRAM.exit_code(&rt, judge(&rt))
+    PROGRAM.exit_code(&rt, check(&rt))
 }
 
-fn judge(rt: &HostRuntime) -> Result<(), Problem> {
+fn check(rt: &HostRuntime) -> Result<(), Problem> {
     let words = arguments(rt)?;
     if asks_help(&words) {
         return Ok(println!(rt; "usage: {}", PROGRAM.usage)?);
