@@ -23,13 +23,13 @@ Each program has a root page table, a second-level table and its pages, of which
     frame 5  page 19, to the toll meter
 """
 import os
+import struct
 import sys
 
 HERE = os.path.dirname(os.path.abspath(__file__))
 sys.dont_write_bytecode = True
-sys.path.insert(0, os.path.dirname(HERE))
 from assembler import assemble  # noqa: E402
-from layout import R, START, W, X, frame, image, leaf, plan, pointer, write  # noqa: E402
+from layout import R, START, W, X, frame, image, leaf, plan, pointer  # noqa: E402
 
 GATES, PUMPS, TOLL = 0, 1, 2
 CODE_PAGE = START // 4096
@@ -57,5 +57,8 @@ IMAGE = image(
     + program(6, "pumps.s", [(R | W, {0: FULL}), (R, {})])
     + program(11, "toll.s", [(R | W, {}), (R, {})])
 )
+SLOTS = struct.pack("<I", 15)
 
-write(sys.argv[1] if len(sys.argv) > 1 else HERE, PLAN, IMAGE, 15)
+for name, content in (("lock.plan", PLAN), ("lock.image", IMAGE), ("lock.slots", SLOTS)):
+    with open(os.path.join(sys.argv[1] if len(sys.argv) > 1 else HERE, name), "wb") as file:
+        file.write(content)

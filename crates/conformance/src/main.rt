@@ -9,11 +9,18 @@ mod suite;
 
 use accesses::run_accesses;
 use cases::run_cases;
+use console::arguments::{arguments, at_most};
+use console::problem::Program;
 use jumps::run_jumps;
 use rv32ui::operation::{OPERATIONS, Operation};
 use rv32ui::runner::outcome;
 use std::io;
 use suite::Suite;
+
+const PROGRAM: Program = Program {
+    name: "conformance",
+    usage: "conformance",
+};
 
 // Runs the rows of an operation.
 fn run_rows(suite: &mut Suite, operation: &Operation) -> io::Result<()> {
@@ -26,6 +33,11 @@ fn run_rows(suite: &mut Suite, operation: &Operation) -> io::Result<()> {
 }
 
 fn main(rt: HostRuntime) -> anyhow::Result<()> {
+    let words = arguments(&rt)?;
+    if PROGRAM.introduces(&rt, &words)? {
+        return Ok(());
+    }
+    at_most(&words, 0)?;
     let mut suite = Suite::new(&rt);
     for operation in &OPERATIONS {
         run_rows(&mut suite, operation)?;

@@ -1,9 +1,9 @@
-// run PLAN IMAGE SLOTS, run PLAN IMAGE --slots N: prints a line for each slot of a run, as it goes.
+// run PLAN IMAGE SLOTS, run PLAN IMAGE --slots N: prints a line for each slot of a run, as it goes, or with --last that of the last.
 #![tactic(auto)]
 
-use console::arguments::{argument, arguments, asks_help, at_most, is_word};
+use console::arguments::{argument, arguments, at_most, is_word};
 use console::files::Files;
-use console::problem::{Problem, Program, VERSION};
+use console::problem::{Problem, Program};
 use console::slots::Slots;
 use isa::decoder::Decoder;
 use kernel::report::Report;
@@ -24,28 +24,24 @@ fn main(rt: HostRuntime) -> ExitCode {
 
 fn run(rt: &HostRuntime) -> Result<(), Problem> {
     let words = arguments(rt)?;
-    if asks_help(&words) {
-        return Ok(println!(rt; "usage: {}", PROGRAM.usage)?);
-    }
-    if is_word(&words, 0, "--version") {
-        return Ok(println!(rt; "{} {VERSION}", PROGRAM.name)?);
+    if PROGRAM.introduces(rt, &words)? {
+        return Ok(());
     }
     let plan = argument(&words, 0, "PLAN")?;
     let image = argument(&words, 1, "IMAGE")?;
     let slots = Slots::named(&words, 2)?;
-    let count = slots.count(rt)?;
     let options = 2 + slots.width();
     let last_only = is_word(&words, options, "--last");
     at_most(&words, options + usize::from(last_only))?;
+    let count = slots.count(rt)?;
     let files = Files::read(rt, plan, image)?;
-    let mut lent = image::load(rt.alloc(), &files.image)?;
-    admission::admit(&files.plan, &lent, &files.image)?;
-    let mut kernel = Kernel::start(&files.plan, &lent)?;
+    let mut opened = admission::open(rt.alloc(), &files.plan, &files.image)??;
     if last_only {
-        let finished = run_slots(&files.plan, &mut lent, count)?;
+        let finished = run_slots(&files.plan, &mut opened.words, count)?;
         return Ok(print_last(rt, finished.last)?);
     }
-    Ok(print_slots(rt, &mut kernel, &mut lent, count)?)
+    let mut kernel = Kernel::start(&files.plan, &opened.words)?;
+    Ok(print_slots(rt, &mut kernel, &mut opened.words, count)?)
 }
 
 fn print_last(rt: &HostRuntime, last: Option<Report>) -> io::Result<()> {
