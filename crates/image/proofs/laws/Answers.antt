@@ -1,5 +1,5 @@
-use Rattle.image.proofs.Front.{tells_all}
+use Rattle.image.proofs.Front.{count_tells, tells_all}
 use Rattle.image.proofs.laws.Goals as goal
 
 pub returns : goal.returns
-returns c = tells_all
+returns c = record { tells_all = tells_all; count_tells = count_tells }
