@@ -1,5 +1,4 @@
-"""How a plan, page tables and an image are put together, for the examples' scripts and the tests."""
-import os
+"""How a plan, page tables and an image are put together, for the example's script and the tests."""
 import struct
 
 V, R, W, X, U, A, D = 1, 2, 4, 8, 16, 64, 128
@@ -34,12 +33,5 @@ def image(frames):
     return struct.pack("<H", len(frames)) + b"".join(frames)
 
 
-# the first address of page 16, where the programs of the examples begin
+# the first address of page 16, where the programs of the example begin
 START = 16 * 4096
-
-
-def write(folder, plan, image, slots):
-    """Writes lock.plan, lock.image and lock.slots."""
-    for name, content in (("lock.plan", plan), ("lock.image", image), ("lock.slots", struct.pack("<I", slots))):
-        with open(os.path.join(folder, name), "wb") as file:
-            file.write(content)

@@ -5,9 +5,9 @@ use Rattle.checker.specs.declared.Accepted.{Accepted}
 use Rattle.checker.specs.Checked.{checked}
 use Rattle.checker.specs.Found.{Judges}
 use Rattle.checker.proofs.Judged.{judged}
-use Rattle.image.specs.Frames.{followed_by, image_fault}
+use Rattle.image.specs.Frames.{image_fault}
 use Rattle.image.proofs.Verdict.{image_cases, not_whole}
-use Rattle.admission.specs.Admitted.{Admits, admitted}
+use Rattle.admission.specs.Admitted.{Admits, admitted, followed_by}
 
 module _ (bytes words image : List ℕ) where
   at_plan : (r : Result Accepted Refusal) → checked bytes words ≡ r → Judges bytes words r → Admits bytes words image (followed_by r (image_fault image))

@@ -1,11 +1,18 @@
 -- The verdict on a plan, the words lent to it, and the image that they were loaded from.
-use Rattle.std.specs.Prelude.{◌≡◌, ℕ, ◌⊎◌, List, Ok, Result, MatchResult}
+use Rattle.std.specs.Prelude.{◌≡◌, ℕ, ◌⊎◌, List, Ok, Err, Option, Result, MatchResult}
+use Rattle.words.specs.First.{unless}
 use Rattle.plan.specs.declared.refusal.Refusal.{Refusal}
 use Rattle.plan.specs.Format.{plan_of}
 use Rattle.checker.specs.declared.Accepted.{Accepted}
 use Rattle.checker.specs.Checked.{accepted, checked}
 use Rattle.checker.specs.Found.{FirstFound, Lawful, Sound}
-use Rattle.image.specs.Frames.{ImageBroken, Whole, followed_by, image_fault}
+use Rattle.image.specs.Frames.{ImageBroken, Whole, image_fault, image_words}
+use Rattle.admission.specs.declared.Opened.{Opened}
+
+-- an answer, unless a later rule is broken
+abbrev pub followed_by : {X E : Type 0} → Result X E → Option E → Result X E
+followed_by (Ok x) o = unless o x
+followed_by (Err e) o = Err e
 
 -- a plan with the words lent to it and their image: the checker's verdict first
 unfoldable pub admitted : List ℕ → List ℕ → List ℕ → Result Accepted Refusal
@@ -17,3 +24,8 @@ pub record Admits (bytes words image : List ℕ) (r : Result Accepted Refusal) :
   pub cases : MatchResult r
       (λ a. Sound bytes words a × Whole image)
       (λ e. FirstFound bytes words e ⊎ (Lawful bytes words × ImageBroken image e))
+
+-- what opening a plan with its image gives: the verdict on the plan with the words that the image lends, and with the plan those words
+abbrev pub Opens : List ℕ → List ℕ → Result Opened Refusal → Type 0
+Opens bytes image (Ok opened) = Admits bytes (image_words image) image (Ok opened.accepted) × (opened.words.items ≡ image_words image)
+Opens bytes image (Err e) = Admits bytes (image_words image) image (Err e)

@@ -1,12 +1,20 @@
-// The verdict on a plan together with the image whose words are lent to it.
+// The verdict on a plan with its image, whose words are lent to it.
 #![tactic(auto)]
 
-ghost use Rattle.std.specs.Prelude.{◌≡◌};
-ghost use Rattle.admission.specs.Admitted.{Admits, admitted};
+ghost use Rattle.std.specs.Prelude.{◌≡◌, IfOk};
+ghost use Rattle.admission.specs.Admitted.{Admits, Opens, admitted};
 
 use checker::{Accepted, check as check_plan};
-use image::check as check_image;
+use image::{check as check_image, load};
 use plan::refusal::Refusal;
+use std::alloc::{AllocError, Global};
+
+// A plan that was accepted with its image, and the words that the image lends.
+#[derive(Drop)]
+pub struct Opened {
+    pub accepted: Accepted,
+    pub words: Vec<u32>,
+}
 
 pub mod laws;
 
@@ -19,4 +27,12 @@ pub fn admit(plan: &[u8], words: &[u32], image: &[u8]) -> Result<Accepted, Refus
     let accepted = check_plan(plan, words)?;
     check_image(image)?;
     Ok(accepted)
+}
+
+// Loads the image's words and judges the plan with them. The outer error: no memory is left for the words.
+pub fn open(heap: Global, plan: &[u8], image: &[u8]) -> Result<Result<Opened, Refusal>, AllocError>
+    ensures { IfOk result (Opens plan.now image.now) }
+{
+    let words = load(heap, image)?;
+    Ok(admit(plan, &words, image).map(|accepted| Opened { accepted, words }))
 }

@@ -1,46 +1,49 @@
-// Runs the vectors of the public RISC-V test suite (rv32ui) through decoding and the ALU, and counts them.
+// Runs the vectors of the public RISC-V test suite (rv32ui) and worked cases on a hart with a small memory, and counts them.
 #![tactic(auto)]
 
-mod bench;
+mod accesses;
+mod cases;
+mod jumps;
+mod machine;
+mod suite;
 
-use bench::Bench;
+use accesses::run_accesses;
+use cases::run_cases;
+use console::arguments::{arguments, at_most};
+use console::problem::Program;
+use jumps::run_jumps;
 use rv32ui::operation::{OPERATIONS, Operation};
-use rv32ui::row::Row;
 use rv32ui::runner::outcome;
-use rv32ui::tally::Tally;
 use std::io;
+use suite::Suite;
 
-// Runs the rows of an operation, and prints how many there were and each that failed.
-fn run_rows(
-    rt: &HostRuntime,
-    bench: &mut Bench,
-    tally: &mut Tally,
-    operation: &Operation,
-) -> io::Result<()> {
+const PROGRAM: Program = Program {
+    name: "conformance",
+    usage: "conformance",
+};
+
+// Runs the rows of an operation.
+fn run_rows(suite: &mut Suite, operation: &Operation) -> io::Result<()> {
     let name = operation.name;
-    for row in operation.rows {
-        let Row(_, expected, left, right) = *row;
-        let given = outcome(bench, operation, *row);
-        if tally.check(given, expected) {
-            continue;
-        }
-        match given {
-            Some(result) => println!(rt;
-                "FAILED {name} {left:08x} {right:08x}: {result:08x}, expected {expected:08x}"
-            )?,
-            None => println!(rt;
-                "FAILED {name} {left:08x} {right:08x}: illegal, expected {expected:08x}"
-            )?,
-        }
+    for (at, row) in operation.rows.iter().enumerate() {
+        let given = outcome(&mut suite.machine, operation, *row);
+        suite.check(name, at, given, row.1)?;
     }
-    tally.count(rt, name, operation.rows.len())
+    suite.count(name, operation.rows.len())
 }
 
 fn main(rt: HostRuntime) -> anyhow::Result<()> {
-    let mut bench = Bench::new();
-    let mut tally = Tally::default();
-    for operation in &OPERATIONS {
-        run_rows(&rt, &mut bench, &mut tally, operation)?;
+    let words = arguments(&rt)?;
+    if PROGRAM.introduces(&rt, &words)? {
+        return Ok(());
     }
-    tally.close(&rt)
+    at_most(&words, 0)?;
+    let mut suite = Suite::new(&rt);
+    for operation in &OPERATIONS {
+        run_rows(&mut suite, operation)?;
+    }
+    run_accesses(&mut suite)?;
+    run_jumps(&mut suite)?;
+    run_cases(&mut suite)?;
+    suite.close()
 }

@@ -1,15 +1,12 @@
 -- For how many slots a program is asked to run.
-use Rattle.std.specs.Prelude.{◌≡◌, ◌≢◌, ℕ, ◌+◌, ◌<◌, ◌≤◌, ◌⊎◌, List, length, string_bytes, codes, String, HoldsAt, Result, Ok, Err, IfErr}
+use Rattle.std.specs.Prelude.{◌≡◌, ◌≢◌, ℕ, ◌+◌, ◌≤◌, ◌⊎◌, List, length, string_bytes, codes, String, Result, Ok, Err, IfErr}
 use Rattle.std.specs.Str.Parse.{ParsesUnsigned}
 use Rattle.std.specs.declared.alloc.Global.{Global}
+use Rattle.console.specs.Words.{IsWordAt}
 use Rattle.console.specs.declared.problem.Problem.{Problem}
 use Rattle.console.specs.declared.problem.Problem.TheVariants.{MissingArgument, NotNumber, NoMemory}
 use Rattle.console.specs.declared.slots.Slots.{Slots}
 use Rattle.console.specs.declared.slots.Slots.TheVariants.{File, Number}
-
--- the word at a place has these bytes
-abbrev pub IsWordAt : List (String Global) → ℕ → List ℕ → Type 0
-IsWordAt words at bytes = (at < length words) × HoldsAt (λ word. string_bytes word ≡ bytes) words at
 
 -- the file or the number that stands at a place, or the word that is missing there
 abbrev pub IsNamed : List (String Global) → ℕ → Result Slots Problem → Type 0

@@ -1,14 +1,15 @@
 // The words of the command line. They are asked by their place and not taken from an iterator, which would be no plainer: the
 // first is looked at before it is known what it is, and the last only if it is an option.
-ghost use Rattle.std.specs.Prelude.{◌≡◌, ◌<◌, is_ok, IfOk, IfErr, IsOkUnless, length, string_bytes, Decides, nat_le, nat_lt, HoldsAt};
-ghost use Rattle.console.specs.Words.{AsksHelp, IsSurplus};
+ghost use Rattle.std.specs.Prelude.{◌≡◌, is_ok, IfOk, IfErr, IsOkUnless, length, string_bytes, Decides, nat_le, nat_lt, HoldsAt};
+ghost use Rattle.console.specs.Words.{IsSurplus, IsWordAt};
 
 use crate::problem::Problem;
-use std::{env, io};
+use std::env;
 
 // The words after the program's name.
-pub fn arguments(rt: &HostRuntime) -> io::Result<Vec<String>> {
-    Ok(env::args(rt)?.skip(1).collect(rt.alloc())?)
+pub fn arguments(rt: &HostRuntime) -> Result<Vec<String>, Problem> {
+    let words = env::args(rt).map_err(Problem::CommandLine)?;
+    Ok(words.skip(1).collect(rt.alloc())?)
 }
 
 // The word at a place, which the usage calls by this name.
@@ -32,17 +33,9 @@ pub fn at_most(words: &[String], count: usize) -> Result<(), Problem>
     }
 }
 
-// Whether the first word asks how the program is called.
-#[tactic(auto, using(crate::proofs::Words::asks_at_first))]
-pub fn asks_help(words: &[String]) -> bool
-    ensures { AsksHelp words.now result }
-{
-    is_word(words, 0, "--help")
-}
-
 // Whether the word at a place is this text.
 pub fn is_word(words: &[String], at: usize, text: &str) -> bool
-    ensures { Decides result ((at < length words.now) × HoldsAt (λ word. string_bytes word ≡ text.now) words.now at) }
+    ensures { Decides result (IsWordAt words.now at text.now) }
 {
     words.get(at).is_some_and(|word| word.as_str() == text)
 }

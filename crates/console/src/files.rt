@@ -16,13 +16,14 @@ pub struct Files {
 }
 
 impl Files {
-    // Reads both, each at most up to the end of the longest that there is and a byte more.
+    // Reads both, the plan at most up to the end of the longest that there is, the image up to the last frame that it counts, and
+    // each a byte more.
     pub fn read(rt: &HostRuntime, plan: &str, image: &str) -> Result<Files, Problem>
         ensures plan { IfOk result (λ files. vec_len files.plan ≤ longest_plan) }
         ensures image { IfOk result (λ files. vec_len files.image ≤ longest_image) }
     {
         let plan = read_up_to(rt, plan, plan::format::longest())?;
-        let image = read_up_to(rt, image, image::longest())?;
+        let image = read_image(rt, image).map_err(|error| unreadable(rt, image, error))?;
         Ok(Files { plan, image })
     }
 }
@@ -31,10 +32,14 @@ impl Files {
 pub fn read_up_to(rt: &HostRuntime, path: &str, limit: usize) -> Result<Vec<u8>, Problem>
     ensures { IfOk result (λ v. vec_len v ≤ limit) }
 {
-    read_some(rt, path, limit).try_map_err(|error| {
-        let path = String::from_str(rt.alloc(), path)?;
-        Ok(Problem::Unreadable(path, error))
-    })
+    read_some(rt, path, limit).map_err(|error| unreadable(rt, path, error))
+}
+
+fn unreadable(rt: &HostRuntime, path: &str, error: io::Error) -> Problem {
+    match String::from_str(rt.alloc(), path) {
+        Ok(path) => Problem::Unreadable(path, error),
+        Err(error) => Problem::NoMemory(error),
+    }
 }
 
 fn read_some(rt: &HostRuntime, path: &str, limit: usize) -> io::Result<Vec<u8>>
@@ -45,6 +50,22 @@ fn read_some(rt: &HostRuntime, path: &str, limit: usize) -> io::Result<Vec<u8>>
         .take(limit as u64)
         .read_to_end(&mut bytes)?;
     // no more have come, which a clause of the library does not say
+    bytes.truncate(limit);
+    Ok(bytes)
+}
+
+// The count first, which tells how much of the file can matter.
+fn read_image(rt: &HostRuntime, path: &str) -> io::Result<Vec<u8>>
+    ensures { IfOk result (λ v. vec_len v ≤ longest_image) }
+{
+    let mut bytes = Vec::new(rt.alloc());
+    let mut file = File::open(rt, path)?;
+    file.by_ref()
+        .take(image::HEADER as u64)
+        .read_to_end(&mut bytes)?;
+    let limit = image::front_size(&bytes);
+    file.take(limit.saturating_sub(bytes.len()) as u64)
+        .read_to_end(&mut bytes)?;
     bytes.truncate(limit);
     Ok(bytes)
 }

@@ -1,14 +1,16 @@
 // Why a program ends without doing its job, and the one line that says so.
-ghost use Rattle.std.specs.Prelude.{◌≡◌, is_ok, if◌then◌else◌};
+ghost use Rattle.std.specs.Prelude.{◌≡◌, IfOk, is_ok, if◌then◌else◌};
 ghost use Rattle.std.specs.Process.{exit_status};
+ghost use Rattle.console.specs.Words.{AsksOfItself};
 
+use crate::arguments::is_word;
 use plan::refusal::Refusal;
 use std::alloc::AllocError;
 use std::io;
 use std::process::ExitCode;
 use thiserror::Error;
 
-pub const VERSION: &str = "0.1.0";
+const VERSION: &str = "0.1.0";
 
 // The name of a program and how it is called.
 #[derive(Clone, Copy)]
@@ -17,6 +19,7 @@ pub struct Program {
     pub usage: &'static str,
 }
 
+// Words of the command line are shown quoted and escaped, so that a line break in one makes no second line.
 #[derive(Debug, Drop, Error)]
 pub enum Problem {
     // the plan or the image breaks a rule
@@ -24,20 +27,21 @@ pub enum Problem {
     Refused(#[from] Refusal),
     #[error("missing argument {0}")]
     MissingArgument(&'static str),
-    #[error("surplus argument '{0}'")]
+    #[error("surplus argument {0:?}")]
     SurplusArgument(String),
-    #[error("--slots takes a whole number from 0 to 4294967295, not '{0}'")]
+    #[error("--slots takes a whole number from 0 to 4294967295, not {0:?}")]
     NotNumber(String),
-    #[error("cannot read {0}: {1}")]
+    #[error("cannot read {0:?}: {1}")]
     Unreadable(String, io::Error),
     // the file with the number of slots has other than four bytes
-    #[error("{0}: a number of slots takes exactly 4 bytes")]
+    #[error("{0:?}: a number of slots takes exactly 4 bytes")]
     SlotsLength(String),
     #[error("out of memory")]
     NoMemory(#[from(alloc)] AllocError),
-    // standard output or the command line cannot be had
-    #[error(transparent)]
-    System(#[from] io::Error),
+    #[error("cannot read the command line: {0}")]
+    CommandLine(io::Error),
+    #[error("cannot write to the standard output: {0}")]
+    Output(#[from] io::Error),
 }
 
 impl Problem {
@@ -50,24 +54,44 @@ impl Problem {
 }
 
 impl Program {
-    // Says what went wrong, if anything did: a refusal on the standard output, alone, and any other problem on the standard
-    // error. A reader that went away is told nothing. A problem stays a problem, so the process ends with status 1;
-    // there is nothing more to tell of it, hence `()`.
+    // Says how the program is called, or its version, if the first word asks for it; and whether it does.
+    pub fn introduces(self, rt: &HostRuntime, words: &[String]) -> io::Result<bool>
+        ensures { IfOk result (AsksOfItself words.now) }
+    {
+        if is_word(words, 0, "--help") {
+            println!(rt; "usage: {}", self.usage)?;
+            return Ok(true);
+        }
+        if is_word(words, 0, "--version") {
+            println!(rt; "{} {VERSION}", self.name)?;
+            return Ok(true);
+        }
+        Ok(false)
+    }
+
+    // Says what went wrong, if anything did. A problem stays a problem, so the process ends with status 1; there is nothing more
+    // to tell of it, hence `()`.
     pub fn ended(self, rt: &HostRuntime, outcome: Result<(), Problem>) -> Result<(), ()>
         ensures { is_ok result ≡ is_ok outcome }
     {
         let Err(problem) = outcome else {
             return Ok(());
         };
+        if let Some(problem) = left_to_say(rt, problem) {
+            self.complain(rt, &problem);
+        }
+        Err(())
+    }
+
+    // One line on the standard error. A reader that went away is told nothing.
+    fn complain(self, rt: &HostRuntime, problem: &Problem) {
         let name = self.name;
         let usage = self.usage;
-        let _ = match &problem {
-            Problem::Refused(refusal) => println!(rt; "{refusal}"),
-            Problem::System(error) if error.kind() == io::ErrorKind::BrokenPipe => Ok(()),
+        let _ = match problem {
+            Problem::Output(error) if error.kind() == io::ErrorKind::BrokenPipe => Ok(()),
             other if other.is_of_usage() => eprintln!(rt; "{name}: {other} (usage: {usage})"),
             other => eprintln!(rt; "{name}: {other}"),
         };
-        Err(())
     }
 
     // Says what went wrong, and gives the status that the process ends with.
@@ -79,5 +103,13 @@ impl Program {
         } else {
             ExitCode::FAILURE
         }
+    }
+}
+
+// Writes a refusal to the standard output, alone. What is then left to say: any other problem, and that it could not be written.
+fn left_to_say(rt: &HostRuntime, problem: Problem) -> Option<Problem> {
+    match problem {
+        Problem::Refused(refusal) => println!(rt; "{refusal}").err().map(Problem::Output),
+        other => Some(other),
     }
 }

@@ -1,13 +1,10 @@
--- The answer on a plan with its image is the verdict that the rules ask for.
-use Rattle.std.proofs.Common.{◌≡◌, ℕ, ◌⊎◌, List, length, Some, None, Ok, Err, Result, refl, inl, inr, arith}
+-- What an image's fault says of its length.
+use Rattle.std.proofs.Common.{◌≡◌, ◌⊎◌, List, ℕ, length, Some, None, Result, MatchResult, refl, inl, inr, arith}
 use Rattle.std.proofs.lemmas.Bool.{cases_lt, lt-ltb, le-ltb}
-use Rattle.plan.specs.declared.model.Plan.{Plan}
+use Rattle.words.specs.First.{unless}
 use Rattle.plan.specs.declared.refusal.Refusal.{Refusal}
 use Rattle.plan.specs.declared.refusal.Refusal.TheVariants.{FramesMissing, Surplus}
-use Rattle.plan.specs.Rules.{parsed}
-use Rattle.plan.specs.Lawful.{Judges}
-use Rattle.plan.proofs.Judged.{judged}
-use Rattle.image.specs.Frames.{Admits, ImageBroken, Whole, admitted, counted, followed_by, image_fault, image_size}
+use Rattle.image.specs.Frames.{ImageBroken, Whole, counted, image_fault, image_size}
 
 -- what the image's fault says
 pub image_cases : (image : List ℕ) →
@@ -25,21 +22,9 @@ pub not_whole : (image : List ℕ) (e : Refusal) → ImageBroken image e → Who
 not_whole image e (inl b) w = omega (arith, b.0, w)
 not_whole image e (inr b) w = omega (arith, b.0, w)
 
-module _ (bytes image : List ℕ) where
-  at_plan : (r : Result Plan Refusal) → parsed bytes ≡ r → Judges bytes r → Admits bytes image (followed_by r (image_fault image))
-  at_plan (Err e) h j = record {
-    accepts = λ l w. absurd (let z : ◌≡◌ {A = ℕ} 0 1 = (let q = j.accepts l in cc) in omega arith);
-    cases = inl j.cases;
-  }
-  at_plan (Ok p) h j = elim (image_cases image) [
-    | inl k ↦ rw k.0 (record { accepts = λ l w. j.accepts l; cases = (j.cases.0, k.1, j.cases.1) })
-    | inr k ↦ rw k.1 (record { accepts = λ l w. absurd (not_whole image k.0 k.2 w); cases = inr (j.cases.0, k.2) })
-  ]
-
-  pub verdict : Admits bytes image (admitted bytes image)
-  unfolding admitted
-  verdict = at_plan (parsed bytes) refl (judged bytes)
-
-  -- what answers as the definition does has the verdict
-  pub verdict_as : (r : Result Plan Refusal) → r ≡ admitted bytes image → Admits bytes image r
-  verdict_as r e = rw e verdict
+-- what answers as the fault asks tells of the length
+pub told_as : (image : List ℕ) (r : Result Unit Refusal) → r ≡ unless (image_fault image) tt → MatchResult r (λ _. Whole image) (ImageBroken image)
+told_as image r e = elim (image_cases image) [
+  | inl k ↦ rw e (rw k.0 k.1)
+  | inr k ↦ rw e (rw k.1 k.2)
+]

@@ -1,14 +1,9 @@
 -- An image of memory: a count of frames in two bytes, low byte first, then the frames, each 1,024 words of four bytes.
-use Rattle.std.specs.Prelude.{◌≡◌, ℕ, ◌+◌, ◌-◌, ◌*◌, ◌/◌, ◌<◌, ◌≤◌, min, cond, ◌⊎◌, List, map, length, take, Some, None, Ok, Err, Option, Result, MatchResult, nat_lt}
+use Rattle.std.specs.Prelude.{◌≡◌, ℕ, ◌+◌, ◌-◌, ◌*◌, ◌/◌, ◌<◌, ◌≤◌, min, cond, ◌⊎◌, List, map, length, take, Some, None, Option, nat_lt}
 use Rattle.std.specs.List.{range_with_len}
-use Rattle.words.specs.Bytes.{byte, number}
-use Rattle.words.specs.First.{unless}
-use Rattle.plan.specs.declared.model.Plan.{Plan}
+use Rattle.words.specs.Bytes.{number}
 use Rattle.plan.specs.declared.refusal.Refusal.{Refusal}
 use Rattle.plan.specs.declared.refusal.Refusal.TheVariants.{FramesMissing, Surplus}
-use Rattle.plan.specs.Format.{plan_of}
-use Rattle.plan.specs.Rules.{parsed}
-use Rattle.plan.specs.Lawful.{Lawful, FirstBroken}
 
 -- the frames that it counts
 abbrev pub counted : List ℕ → ℕ
@@ -44,30 +39,22 @@ ImageBroken image e =
     ((length image < image_size (counted image)) × (e ≡ FramesMissing))
     ⊎ ((image_size (counted image) < length image) × (e ≡ Surplus (image_size (counted image))))
 
--- an answer, unless a later rule is broken
-abbrev pub followed_by : {X E : Type 0} → Result X E → Option E → Result X E
-followed_by (Ok x) o = unless o x
-followed_by (Err e) o = Err e
+-- the front part of a file that tells all: the bytes that its count asks for, and one more
+abbrev pub front_size : List ℕ → ℕ
+front_size image = image_size (counted image) + 1
 
--- a plan with its image: the plan's rules first
-unfoldable pub admitted : List ℕ → List ℕ → Result Plan Refusal
-admitted bytes image = followed_by (parsed bytes) (image_fault image)
-
--- what a verdict on both has to be
-pub record Admits (bytes image : List ℕ) (r : Result Plan Refusal) : Type 0 where
-  pub accepts : Lawful bytes → Whole image → r ≡ Ok (plan_of bytes)
-  pub cases : MatchResult r
-      (λ p. Lawful bytes × Whole image × (p ≡ plan_of bytes))
-      (λ e. FirstBroken bytes e ⊎ (Lawful bytes × ImageBroken image e))
-
--- the longest image that a count can ask for ends within so many bytes
+-- no count asks for a longer one
 abbrev pub longest : ℕ
 longest = 268431363
 
--- so the verdict on a file, and the words that it lends, are those of so many of its bytes
+-- the verdict on a file, and the words that it lends, are those of so many of its bytes
 pub record FrontTells (image : List ℕ) (n : ℕ) : Type 0 where
   pub fault : image_fault (take n image) ≡ image_fault image
   pub words : image_words (take n image) ≡ image_words image
 
 abbrev pub TellsAll : Type 0
-TellsAll = (image : List ℕ) (n : ℕ) → ((i : ℕ) → byte image i < 256) → longest ≤ n → FrontTells image n
+TellsAll = (image : List ℕ) (n : ℕ) → front_size image ≤ n → FrontTells image n
+
+-- how long the front part is, is told by the count, with which it begins
+abbrev pub CountTells : Type 0
+CountTells = (image : List ℕ) (n : ℕ) → 2 ≤ n → front_size (take n image) ≡ front_size image

@@ -1,26 +1,33 @@
 // An image of memory: a count of frames in two bytes, low byte first, then the frames, each 1,024 words of four bytes.
 #![tactic(auto)]
 
-ghost use Rattle.std.specs.Prelude.{◌≡◌, IfOk};
+ghost use Rattle.std.specs.Prelude.{◌≡◌, ◌≤◌, IfOk, MatchResult};
 ghost use Rattle.words.specs.First.{unless};
-ghost use Rattle.image.specs.Frames.{Admits, TellsAll, admitted, image_fault, image_words, lent_frames, longest};
+ghost use Rattle.image.specs.Frames.{CountTells, ImageBroken, TellsAll, Whole, counted, front_size, image_fault, image_size, image_words, lent_frames, longest};
 
-use plan::model::Plan;
 use plan::refusal::Refusal;
-use plan::rules::parse;
 use std::alloc::{AllocError, Global};
 use words::bytes::{u16_at, u32_at};
 use words::frames::FRAME_WORDS;
 
-const HEADER: usize = 2;
+// The bytes of the count.
+pub const HEADER: usize = 2;
 
 const FRAME: usize = FRAME_WORDS * 4;
 
-// So many bytes of a file tell all: no count asks for as many, so an image that goes on has bytes after its last frame.
-pub fn longest() -> usize
-    ensures { result ≡ longest }
+// The bytes that the image has to have.
+fn size(image: &[u8]) -> usize
+    ensures { result ≡ image_size (counted image.now) }
 {
-    HEADER + 65535 * FRAME + 1
+    HEADER + FRAME * usize::from(u16_at(image, 0))
+}
+
+// So many bytes of a file that begins with these tell all: an image that goes on has bytes after its last frame.
+pub fn front_size(image: &[u8]) -> usize
+    ensures value { result ≡ front_size image.now }
+    ensures bounded { result ≤ longest }
+{
+    size(image) + 1
 }
 
 // How many frames the image lends: the whole ones that it has, at most as many as it counts.
@@ -41,10 +48,12 @@ pub fn load(heap: Global, image: &[u8]) -> Result<Vec<u32>, AllocError>
 }
 
 // Whether the image has as many bytes as it counts frames, no fewer and no more.
+#[tactic(auto, using(crate::proofs::Verdict::told_as))]
 pub fn check(image: &[u8]) -> Result<(), Refusal>
-    ensures { result ≡ unless (image_fault image.now) tt }
+    ensures value { result ≡ unless (image_fault image.now) tt }
+    ensures verdict { MatchResult result (λ _. Whole image.now) (ImageBroken image.now) }
 {
-    let size = HEADER + FRAME * usize::from(u16_at(image, 0));
+    let size = size(image);
     if image.len() < size {
         return Err(Refusal::FramesMissing);
     }
@@ -54,20 +63,10 @@ pub fn check(image: &[u8]) -> Result<(), Refusal>
     Ok(())
 }
 
-// The plan that the bytes say, or the first rule that they break, and after those the image's own.
-#[tactic(auto, unfolding(crate::specs::Frames::admitted), using(crate::proofs::Verdict::verdict_as))]
-pub fn admit(plan: &[u8], image: &[u8]) -> Result<Plan, Refusal>
-    ensures value { result ≡ admitted plan.now image.now }
-    ensures verdict { Admits plan.now image.now result }
-{
-    let plan = parse(plan)?;
-    check(image)?;
-    Ok(plan)
-}
-
-// A file is not read past its longest image: nothing there changes a verdict or a lent word.
+// A file is not read past the first byte after its last frame: nothing there changes a verdict or a lent word.
 pub fn laws()
-    ensures { TellsAll }
+    ensures tells_all { TellsAll }
+    ensures count_tells { CountTells }
 {}
 
 #[cfg(test)]

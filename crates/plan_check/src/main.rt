@@ -1,7 +1,7 @@
 // check PLAN IMAGE: prints 'accepted', or the refusal of the first rule that the plan or its image breaks.
 #![tactic(auto)]
 
-use console::arguments::{argument, arguments, asks_help, at_most};
+use console::arguments::{argument, arguments, at_most};
 use console::files::Files;
 use console::problem::{Problem, Program};
 use std::process::ExitCode;
@@ -17,13 +17,13 @@ fn main(rt: HostRuntime) -> ExitCode {
 
 fn check(rt: &HostRuntime) -> Result<(), Problem> {
     let words = arguments(rt)?;
-    if asks_help(&words) {
-        return Ok(println!(rt; "usage: {}", PROGRAM.usage)?);
+    if PROGRAM.introduces(rt, &words)? {
+        return Ok(());
     }
     let plan = argument(&words, 0, "PLAN")?;
     let image = argument(&words, 1, "IMAGE")?;
     at_most(&words, 2)?;
     let files = Files::read(rt, plan, image)?;
-    image::admit(&files.plan, &files.image)?;
+    admission::open(rt.alloc(), &files.plan, &files.image)??;
     Ok(println!(rt; "accepted")?)
 }

@@ -1,19 +1,21 @@
-// run PLAN IMAGE SLOTS, run PLAN IMAGE --slots N: prints a line for each slot of a run, as it goes.
+// run PLAN IMAGE SLOTS, run PLAN IMAGE --slots N: prints a line for each slot of a run, as it goes, or with --last that of the last.
 #![tactic(auto)]
 
-use console::arguments::{argument, arguments, asks_help, at_most};
+use console::arguments::{argument, arguments, at_most, is_word};
 use console::files::Files;
 use console::problem::{Problem, Program};
 use console::slots::Slots;
-use plan::model::Plan;
-use plan::timetable::Turn;
+use isa::decoder::Decoder;
+use kernel::report::Report;
+use separation::face::Kernel;
+use separation::run::run as run_slots;
 use std::io::{BufWriter, Write};
 use std::process::ExitCode;
 use std::{io, iter};
 
 const PROGRAM: Program = Program {
     name: "run",
-    usage: "run PLAN IMAGE SLOTS, or run PLAN IMAGE --slots N",
+    usage: "run PLAN IMAGE SLOTS [--last], or run PLAN IMAGE --slots N [--last]",
 };
 
 fn main(rt: HostRuntime) -> ExitCode {
@@ -22,27 +24,44 @@ fn main(rt: HostRuntime) -> ExitCode {
 
 fn run(rt: &HostRuntime) -> Result<(), Problem> {
     let words = arguments(rt)?;
-    if asks_help(&words) {
-        return Ok(println!(rt; "usage: {}", PROGRAM.usage)?);
+    if PROGRAM.introduces(rt, &words)? {
+        return Ok(());
     }
     let plan = argument(&words, 0, "PLAN")?;
     let image = argument(&words, 1, "IMAGE")?;
     let slots = Slots::named(&words, 2)?;
-    at_most(&words, 2 + slots.width())?;
+    let options = 2 + slots.width();
+    let last_only = is_word(&words, options, "--last");
+    at_most(&words, options + usize::from(last_only))?;
     let count = slots.count(rt)?;
     let files = Files::read(rt, plan, image)?;
-    let plan = image::admit(&files.plan, &files.image)?;
-    Ok(print_slots(rt, &plan, count)?)
+    let mut opened = admission::open(rt.alloc(), &files.plan, &files.image)??;
+    if last_only {
+        let finished = run_slots(&files.plan, &mut opened.words, count)?;
+        return Ok(print_last(rt, finished.last)?);
+    }
+    let mut kernel = Kernel::start(&files.plan, &opened.words)?;
+    Ok(print_slots(rt, &mut kernel, &mut opened.words, count)?)
 }
 
-fn print_slots(rt: &HostRuntime, plan: &Plan, count: u32) -> io::Result<()> {
+fn print_last(rt: &HostRuntime, last: Option<Report>) -> io::Result<()> {
+    if let Some(report) = last {
+        println!(rt; "{report}")?;
+    }
+    Ok(())
+}
+
+fn print_slots(
+    rt: &HostRuntime,
+    kernel: &mut Kernel,
+    lent: &mut [u32],
+    count: u32,
+) -> io::Result<()> {
     let mut out = BufWriter::new(rt.alloc(), rt.stdout())?;
-    let turns = iter::successors(Some(Turn::FIRST), |turn| turn.next(plan));
-    for turn in turns.take(count as usize) {
-        let number = turn.number;
-        let partition = turn.slot(plan).partition;
-        let begin = turn.begin;
-        writeln!(out, "slot {number} partition {partition} from {begin}")?;
+    let mut decoder = Decoder::new();
+    let reports = iter::from_fn(|| kernel.run_slot(lent, &mut decoder));
+    for report in reports.take(count as usize) {
+        writeln!(out, "{report}")?;
     }
     out.flush()
 }

@@ -1,7 +1,8 @@
 -- The sample with one rule broken, and what the checker answers.
 use Rattle.std.proofs.Common.{◌≡◌, ℕ, zero, suc, ◌<◌, Bool, true, false, List, Some, None, Err, Decides, Option, sym, refl, ap, subst, inl, inr, arith}
 use Rattle.std.proofs.lemmas.Bool.{cases_Bool, true≢false}
-use Rattle.words.specs.First.{count, first, most, or_else, unless}
+use Rattle.std.specs.Option.{option_or}
+use Rattle.words.specs.First.{count, first, most, unless}
 use Rattle.words.specs.Frames.{word}
 use Rattle.words.proofs.First.{any_here, below_none, first_more, first_none, first_stays}
 use Rattle.paging.specs.Entries.{flag}
@@ -37,10 +38,10 @@ refuted t d h = elim (cases_Bool t) [ inl e ↦ absurd (h (d.0 e)) | inr e ↦ e
 
 -- of the rules on frames, the first that refuses; in between come rules that a plan with its own rules kept passes
 on_frames : (five six seven eight eleven : Option Refusal) → Option Refusal
-on_frames five six seven eight eleven = or_else five (or_else six (or_else seven (or_else eight eleven)))
+on_frames five six seven eight eleven = option_or five (option_or six (option_or seven (option_or eight eleven)))
 
 decided : {X : Type 0} (five six seven eight eleven : Option Refusal) (e : Refusal) (x : X) → on_frames five six seven eight eleven ≡ Some e →
-    unless (or_else five (or_else six (or_else seven (or_else eight (or_else None (or_else None (or_else eleven None))))))) x ≡ Err e
+    unless (option_or five (option_or six (option_or seven (option_or eight (option_or None (option_or None (option_or eleven None))))))) x ≡ Err e
 unfolding on_frames
 decided (Some d) b c f g e x h = cc
 decided None (Some d) c f g e x h = cc

@@ -1,11 +1,16 @@
 // speed N: runs a loop for N instructions, one step after the other, and prints what it took in cycles. `time` tells how long that is.
 #![tactic(auto)]
 
-use anyhow::anyhow;
+use console::arguments::{argument, arguments, at_most};
+use console::problem::Program;
 use hart::step::Core;
 use isa::decoder::Decoder;
 use rv32ui::memory::{CODE, CODE_FRAME, MEMORY_WORDS, lay_out, put};
-use std::env;
+
+const PROGRAM: Program = Program {
+    name: "speed",
+    usage: "speed N",
+};
 
 // Goes around page 17 and adds to its words.
 const LOOP: [u32; 9] = [
@@ -31,12 +36,12 @@ fn run(words: &mut [u32], count: u64) -> u64 {
 }
 
 fn main(rt: HostRuntime) -> anyhow::Result<()> {
-    let mut words = env::args(&rt)?;
-    let _ = words.next();
-    let count = match words.next() {
-        Some(word) => word.parse::<u64>()?,
-        None => return Err(anyhow!("usage: speed N")),
-    };
+    let words = arguments(&rt)?;
+    if PROGRAM.introduces(&rt, &words)? {
+        return Ok(());
+    }
+    let count = argument(&words, 0, "N")?.parse::<u64>()?;
+    at_most(&words, 1)?;
     let mut memory = vec![in rt.alloc(); 0u32; MEMORY_WORDS]?;
     lay_out(&mut memory);
     put(&mut memory, CODE_FRAME, 0, &LOOP);
