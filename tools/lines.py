@@ -3,8 +3,8 @@
 
     python3 tools/lines.py
 
-A line counts if it is not blank. Code is src/ with its clauses but without its tests; specs and proofs are the files of those folders, proofs with the frame
-of each goal that `rt check` writes for a proof by hand; edits are the files of must-fail/, counted as files.
+A line counts if it is not blank. Code is src/ with its contracts and without its tests; specs and proofs are what these folders hold; of edits,
+which are the files of must-fail/, the files are counted.
 """
 import os
 
