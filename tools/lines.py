@@ -1,12 +1,14 @@
 #!/usr/bin/env python3
 """Counts lines for each crate of crates.txt, and prints the table that docs/ARCHITECTURE.md shows.
 
-    python3 tools/lines.py
+    python3 tools/lines.py [--write]      --write puts it there
 
 A line counts if it is not blank. Code is src/ with its contracts and without its tests; specs and proofs are what these folders hold; of edits,
 which are the files of must-fail/, the files are counted.
 """
 import os
+import re
+import sys
 
 ROOT = os.path.join(os.path.dirname(os.path.abspath(__file__)), "..")
 COLUMNS = ("code", "tests", "specs", "proofs", "edits")
@@ -49,13 +51,32 @@ def row(name, counted):
     return f"| {name} | " + " | ".join(f"{counted[column]:,}" for column in COLUMNS) + " |"
 
 
-def main():
+def table():
     counts = {crate: count(crate) for crate in crates()}
-    print("| crate | " + " | ".join(COLUMNS) + " |")
-    print("|---" * (len(COLUMNS) + 1) + "|")
-    for crate, counted in counts.items():
-        print(row(f"`{crate}`", counted))
-    print(row("all", {column: sum(counted[column] for counted in counts.values()) for column in COLUMNS}))
+    total = {column: sum(counted[column] for counted in counts.values()) for column in COLUMNS}
+    head = ["| crate | " + " | ".join(COLUMNS) + " |", "|---" * (len(COLUMNS) + 1) + "|"]
+    return head + [row(f"`{crate}`", counted) for crate, counted in counts.items()] + [row("all", total)]
+
+
+def write(lines):
+    """Puts the table in the place of the one in docs/ARCHITECTURE.md."""
+    path = os.path.join(ROOT, "docs", "ARCHITECTURE.md")
+    with open(path, encoding="utf-8") as file:
+        text = file.read()
+    old = re.search(r"\| crate \| code \|.*?\n\| all \|[^\n]*\n", text, re.S)
+    if old is None:
+        sys.exit(f"{path}: no table of lines")
+    with open(path, "w", encoding="utf-8") as file:
+        file.write(text[: old.start()] + "\n".join(lines) + "\n" + text[old.end() :])
+
+
+def main():
+    if sys.argv[1:] not in ([], ["--write"]):
+        sys.exit("usage: lines.py [--write]")
+    lines = table()
+    print("\n".join(lines))
+    if sys.argv[1:] == ["--write"]:
+        write(lines)
 
 
 main()
