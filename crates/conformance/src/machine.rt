@@ -53,7 +53,7 @@ impl Machine {
 
     // One instruction: its cycles.
     pub fn step(&mut self) -> u32 {
-        self.core.step_with(&mut self.words, &mut self.decoder)
+        self.core.step(&mut self.words, &mut self.decoder)
     }
 
     // Puts the words at the start and runs so many instructions; none where the program stopped.

@@ -7,7 +7,7 @@ ghost use Rattle.hart.specs.Core.{faulted, first_core, later, looked_up, on, run
 
 use crate::cause::Cause;
 use crate::context::{Context, State};
-use isa::decoder::{Afresh, Decode};
+use isa::decoder::Decoder;
 use paging::access::Access;
 use paging::translate::PAGE_BYTES;
 use tables::Tables;
@@ -41,19 +41,8 @@ impl Core {
     }
 
     // Runs one instruction, and answers the cycles that it took, by which the clock moves on.
-    // A stopped program uses up one cycle, and nothing else changes.
-    pub fn step(&mut self, words: &mut [u32]) -> u32
-        ensures cost { result ≡ (step_of self.old words.old).cost }
-        ensures least { instruction ≤ result }
-        ensures most { result ≤ highest }
-        ensures core { self.new ≡ later self.old (step_of self.old words.old) }
-        ensures words { words.new ≡ (step_of self.old words.old).words }
-    {
-        self.step_with(words, &mut Afresh)
-    }
-
-    // The same step with a decoder, which is no part of the machine: with any decoder all is the same.
-    pub fn step_with<D: Decode>(&mut self, words: &mut [u32], decoder: &mut D) -> u32
+    // A stopped program uses up one cycle, and nothing else changes. The decoder is no part of the machine: with any of them all is the same.
+    pub fn step(&mut self, words: &mut [u32], decoder: &mut Decoder) -> u32
         ensures cost { result ≡ (step_of self.old words.old).cost }
         ensures least { instruction ≤ result }
         ensures most { result ≤ highest }
@@ -67,7 +56,7 @@ impl Core {
 
     // A step at one reading of the clock.
     #[tactic(auto, unfolding(crate::specs::Core::stepped, crate::specs::Core::fetch_ran))]
-    fn run<D: Decode>(&mut self, words: &mut [u32], decoder: &mut D) -> u32
+    fn run(&mut self, words: &mut [u32], decoder: &mut Decoder) -> u32
         ensures cost { result ≡ (step_of self.old words.old).cost }
         ensures least { instruction ≤ result }
         ensures most { result ≤ highest }
@@ -86,12 +75,7 @@ impl Core {
 
     // The instruction at the counter, whose page is in a frame.
     #[tactic(auto, using(crate::proofs::Ran::cheap_word))]
-    pub(crate) fn run_in<D: Decode>(
-        &mut self,
-        frame: u32,
-        words: &mut [u32],
-        decoder: &mut D,
-    ) -> u32
+    pub(crate) fn run_in(&mut self, frame: u32, words: &mut [u32], decoder: &mut Decoder) -> u32
         ensures cost { result ≡ (run_from self.old words.old frame).cost }
         ensures most { result ≤ page_walk + miss + write_back }
         ensures core { self.new ≡ with_ran self.old (run_from self.old words.old frame) }
@@ -122,19 +106,14 @@ impl Core {
 
     // The instruction of a word that was fetched. The number is for the decoder alone.
     #[tactic(auto, unfolding(crate::specs::Core::word_ran))]
-    fn run_word<D: Decode>(
-        &mut self,
-        word: u32,
-        number: u32,
-        words: &mut [u32],
-        decoder: &mut D,
-    ) -> u32
+    fn run_word(&mut self, word: u32, number: u32, words: &mut [u32], decoder: &mut Decoder) -> u32
         ensures cost { result ≡ (on self.old word_ran words.old self.old.clock word).cost }
         ensures most { result ≤ page_walk + miss + write_back }
         ensures core { self.new ≡ with_ran self.old (on self.old word_ran words.old self.old.clock word) }
         ensures words { words.new ≡ (on self.old word_ran words.old self.old.clock word).words }
     {
-        match decoder.instruction_of(number, word) {
+        let instruction = *decoder.recall(number, word);
+        match instruction {
             Some(instruction) => self.execute(instruction, words),
             None => {
                 self.context.stop(Cause::IllegalInstruction);

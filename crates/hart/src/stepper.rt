@@ -1,4 +1,4 @@
-// A core that is stepped again and again. It remembers the page of the last fetch: while the TLB stays as it is, the next fetch there looks nothing up.
+// A core that is stepped again and again. It remembers the page of its last fetch: while the TLB stays as it is, the next fetch there needs no look-up.
 ghost use Rattle.std.specs.Prelude.{◌≡◌, ◌≤◌, None, option_map};
 ghost use Rattle.std.specs.Option.{ForSome};
 ghost use Rattle.words.specs.Costs.{highest, instruction, page_walk};
@@ -8,7 +8,7 @@ ghost use Rattle.hart.specs.Core.{faulted, later, looked_up, step_of, with_ran};
 
 use crate::context::State;
 use crate::step::Core;
-use isa::decoder::Decode;
+use isa::decoder::Decoder;
 use paging::access::Access;
 use paging::translate::PAGE_BYTES;
 use tables::tlb::Lookup;
@@ -44,8 +44,8 @@ impl Stepper {
         Stepper { core, window: None }
     }
 
-    // One instruction, as `Core::step` runs it. The decoder is no part of the machine.
-    pub fn step<D: Decode>(&mut self, words: &mut [u32], decoder: &mut D) -> u32
+    // One instruction, to the cycle as `Core::step` runs it.
+    pub fn step(&mut self, words: &mut [u32], decoder: &mut Decoder) -> u32
         ensures cost { result ≡ (step_of self.old.core words.old).cost }
         ensures least { instruction ≤ result }
         ensures most { result ≤ highest }
@@ -58,7 +58,7 @@ impl Stepper {
     }
 
     #[tactic(auto, unfolding(crate::specs::Core::stepped, crate::specs::Core::fetch_ran))]
-    fn run<D: Decode>(&mut self, words: &mut [u32], decoder: &mut D) -> u32
+    fn run(&mut self, words: &mut [u32], decoder: &mut Decoder) -> u32
         ensures cost { result ≡ (step_of self.old.core words.old).cost }
         ensures least { instruction ≤ result }
         ensures most { result ≤ highest }
@@ -85,18 +85,26 @@ impl Stepper {
         ensures most { result.cost ≤ page_walk }
         ensures core { self.new.core ≡ faulted self.old.core words.now self.old.core.context.pc Fetch result.frame }
     {
-        let pc = self.core.context.pc;
-        let page = pc / PAGE_BYTES;
+        let page = self.core.context.pc / PAGE_BYTES;
         match self.window {
             Some(window) if window.page == page => Lookup {
                 frame: Some(window.frame),
                 cost: 0,
             },
-            _ => {
-                let found = self.core.look_up(words, pc, Access::Fetch);
-                self.window = Window::after(page, found);
-                found
-            }
+            _ => self.open(words),
         }
+    }
+
+    // Looks the page up and remembers it. A call of its own: in place it would take the loop's registers.
+    #[inline(never)]
+    fn open(&mut self, words: &[u32]) -> Lookup
+        ensures found { result ≡ looked_up self.old.core.tables words.now self.old.core.root self.old.core.context.pc Fetch }
+        ensures most { result.cost ≤ page_walk }
+        ensures core { self.new.core ≡ faulted self.old.core words.now self.old.core.context.pc Fetch result.frame }
+    {
+        let pc = self.core.context.pc;
+        let found = self.core.look_up(words, pc, Access::Fetch);
+        self.window = Window::after(pc / PAGE_BYTES, found);
+        found
     }
 }

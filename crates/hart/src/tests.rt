@@ -40,7 +40,7 @@ fn halves_of_the_clock(rt: HostRuntime) {
         lay_out(&mut words, code);
         let mut core = ready();
         core.clock = 0x5_0000_0007;
-        let cost = core.step_with(&mut words, &mut decoder);
+        let cost = core.step(&mut words, &mut decoder);
         assert_eq!(rt; cost, 31);
         assert_eq!(rt; core.context.registers.read(Register::new(5)), value);
     }
@@ -57,7 +57,7 @@ fn a_byte_stored(rt: HostRuntime) {
         let mut core = ready();
         core.context.registers.write(Register::new(1), address);
         core.context.registers.write(Register::new(2), 0x1234_56ff);
-        assert_eq!(rt; core.step_with(&mut words, &mut decoder), cost);
+        assert_eq!(rt; core.step(&mut words, &mut decoder), cost);
         assert_eq!(rt; read(&words, 3, 0), word);
     }
 }

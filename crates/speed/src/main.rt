@@ -4,6 +4,7 @@
 use console::arguments::{argument, arguments, at_most};
 use console::problem::Program;
 use hart::step::Core;
+use hart::stepper::Stepper;
 use isa::decoder::Decoder;
 use rv32ui::memory::{CODE, CODE_FRAME, MEMORY_WORDS, lay_out, put};
 
@@ -27,12 +28,12 @@ const LOOP: [u32; 9] = [
 
 // The clock after so many instructions.
 fn run(words: &mut [u32], count: u64) -> u64 {
-    let mut core = Core::new(0, CODE);
+    let mut stepper = Stepper::new(Core::new(0, CODE));
     let mut decoder = Decoder::new();
     for _ in 0..count {
-        core.step_with(words, &mut decoder);
+        stepper.step(words, &mut decoder);
     }
-    core.clock
+    stepper.core.clock
 }
 
 fn main(rt: HostRuntime) -> anyhow::Result<()> {

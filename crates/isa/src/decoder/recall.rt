@@ -3,7 +3,7 @@ ghost use Rattle.std.specs.Prelude.{◌≡◌, ◌<◌, slice_index_or};
 ghost use Rattle.isa.specs.Decoding.{decoded};
 ghost use Rattle.isa.specs.Remembered.{first_decoder, known, place_of, remembered};
 
-use super::{Afresh, Decode, Decoder, ENTRIES, Known};
+use super::{Decoder, ENTRIES, Known};
 use crate::decode::decode;
 use crate::instruction::Instruction;
 
@@ -55,16 +55,4 @@ fn place_of(number: u32) -> usize
     ensures within { result < 1024 }
 {
     (number / 4) as usize % ENTRIES
-}
-
-impl Decode for Afresh {
-    fn instruction_of(&mut self, _number: u32, word: u32) -> Option<Instruction> {
-        decode(word)
-    }
-}
-
-impl Decode for Decoder {
-    fn instruction_of(&mut self, number: u32, word: u32) -> Option<Instruction> {
-        *self.recall(number, word)
-    }
 }

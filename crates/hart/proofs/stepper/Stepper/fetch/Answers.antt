@@ -1,22 +1,6 @@
--- The goals of `fetch`: what was found before is found again.
-use Rattle.std.proofs.Common.{◌≡◌, ℕ, ◌/◌, Some, None, Option, option_map, sym, ap, ◌∙◌, rules}
-use Rattle.std.proofs.lemmas.Option.{none-some, same_Some}
-use Rattle.hart.specs.declared.stepper.Window.{Window}
+-- What is left to show of `fetch`: a page that the TLB has needs no look-up.
 use Rattle.hart.proofs.Ran.{at_hand_found}
 use Rattle.hart.proofs.stepper.Stepper.fetch.Goals as goal
-
-windowed : (page : ℕ) (o : Option ℕ) (x : Window) → option_map (λ frame. record { page = page; frame = frame }) o ≡ Some x → (o ≡ Some x.frame) × (x.page ≡ page)
-windowed page None x e = absurd (none-some x e)
-windowed page (Some f) x e =
-    let g = same_Some (record { page = page; frame = f }) x e in
-    (ap (λ (w : Window). Some w.frame) g, sym (ap (λ (w : Window). w.page) g))
-
-pub invariant_of-self : goal.invariant_of-self
-invariant_of-self c = record {
-  at_hand = λ x e.
-      let w = windowed (c.args.self.now.core.context.pc / 4096) c.look_up-found.result.frame x (sym c.after-self.ensures ∙ e) in
-      rw w.1 (c.look_up-found.ensures.again x.frame w.0);
-}
 
 pub returns-in-Some-clause-found : goal.returns-in-Some-clause-found
 returns-in-Some-clause-found c =
