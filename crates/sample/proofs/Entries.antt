@@ -2,7 +2,7 @@
 use Rattle.std.proofs.Common.{◌≡◌, ℕ, ◌+◌, ◌*◌, ◌/◌, ◌%◌, ◌<◌, true, false, eqb, refl, ap, inl, arith}
 use Rattle.paging.specs.Entries.{flag, frame_of, is_leaf, is_valid}
 use Rattle.paging.specs.Mapping.{LeafEntry, Pointer}
-use Rattle.sample.specs.Memory.{points_at, reads, writes}
+use Rattle.sample.specs.Memory.{points_at, reads, runs, writes}
 
 module _ (f low : ℕ) where
   flag_0 : flag (f * 1024 + low) 0 ≡ flag low 0
@@ -50,6 +50,21 @@ pointer t = record {
   not_writable = flag_2 t 1;
   not_executable = flag_3 t 1;
   frame = frame_at t 1 (omega arith);
+}
+
+pub runs_leaf : (f : ℕ) → LeafEntry (runs f) (record { frame = f; readable = true; writable = false; executable = true })
+unfolding flag
+runs_leaf f = record {
+  valid = flag_0 f 0xDB;
+  user = flag_4 f 0xDB;
+  accessed = flag_6 f 0xDB;
+  dirty = flag_7 f 0xDB;
+  readable = flag_1 f 0xDB;
+  writable = flag_2 f 0xDB;
+  executable = flag_3 f 0xDB;
+  frame = frame_at f 0xDB (omega arith);
+  not_nothing = inl refl;
+  not_write_only = λ w. refl;
 }
 
 pub writes_leaf : (f : ℕ) → LeafEntry (writes f) (record { frame = f; readable = true; writable = true; executable = false })

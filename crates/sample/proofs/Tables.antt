@@ -97,7 +97,22 @@ module _ (ws : List ℕ) (r t a b la lb : ℕ)
         };
   }
 
-  -- page 17 leads to the leaf that its entry is
+  -- pages 16 and 17 lead to the leaves that their entries are
+  pub leads_16 : InMemory ws r → InMemory ws t → (leaf : Leaf) → LeafEntry (a * 1024 + la) leaf → leaf.frame < 256 → Leads ws r 16 leaf
+  leads_16 root_there table_there leaf is below = record {
+    high = 0;
+    low = 16;
+    table = t;
+    high_below = omega arith;
+    low_below = omega arith;
+    number = refl;
+    points = its_pointer;
+    leads = subst (λ e. LeafEntry e leaf) (sym table_16) is;
+    root_there = root_there;
+    table_there = table_there;
+    frame_below = below;
+  }
+
   pub leads_17 : InMemory ws r → InMemory ws t → (leaf : Leaf) → LeafEntry (b * 1024 + lb) leaf → leaf.frame < 256 → Leads ws r 17 leaf
   leads_17 root_there table_there leaf is below = record {
     high = 0;

@@ -3,17 +3,21 @@
 use Rattle.std.specs.Prelude.{ℕ, ◌+◌, ◌*◌, ◌/◌, ◌%◌, cond, List, [], ◌∷◌, map, ◌==◌}
 use Rattle.std.specs.List.{range_with_len}
 
--- two partitions with roots 0 and 3 that start at 00010000, slots of 200 and 128 cycles, a channel from page 17 of the first to page 17
--- of the second, and the least budget that is ample with it, 1,754
-abbrev pub two : List ℕ
-two =
+-- a plan of two partitions that start at 00010000, the first with root 0, slots of 200 and 128 cycles, and a budget of 1,754; left open are
+-- the root of the second, and of a channel from page 17 its sender, its receiver and the receiver's page
+abbrev pub planned : ℕ → ℕ → ℕ → ℕ → List ℕ
+planned root sender receiver page =
     2 ∷ 2 ∷ 1 ∷ 0xda ∷ 6 ∷ 0 ∷ 0
     ∷ 0 ∷ 0 ∷ 0 ∷ 0 ∷ 1 ∷ 0
-    ∷ 3 ∷ 0 ∷ 0 ∷ 0 ∷ 1 ∷ 0
+    ∷ root ∷ 0 ∷ 0 ∷ 0 ∷ 1 ∷ 0
     ∷ 0 ∷ 200 ∷ 0 ∷ 0 ∷ 0
     ∷ 1 ∷ 128 ∷ 0 ∷ 0 ∷ 0
-    ∷ 0 ∷ 1 ∷ 17 ∷ 0 ∷ 0 ∷ 0 ∷ 17 ∷ 0 ∷ 0 ∷ 0
+    ∷ sender ∷ receiver ∷ 17 ∷ 0 ∷ 0 ∷ 0 ∷ page ∷ 0 ∷ 0 ∷ 0
     ∷ []
+
+-- roots 0 and 3, and a channel from page 17 of the first to page 17 of the second
+abbrev pub two : List ℕ
+two = planned 3 0 1 17
 
 -- an entry that points to a table (V), and leaves of a frame: to run (R and X), to write (R and W), to read only (R), each with V, U, A and D
 abbrev pub points_at : ℕ → ℕ

@@ -1,12 +1,13 @@
 -- What the checker says of the plan and its memory.
-use Rattle.std.specs.Prelude.{◌≡◌, ℕ, ◌<◌, ◌≤◌, ◌≢◌, Ok, Err}
+use Rattle.std.specs.Prelude.{◌≡◌, ℕ, ◌<◌, ◌≤◌, ◌≢◌, List, Ok, Err}
 use Rattle.words.specs.Frames.{word}
 use Rattle.paging.specs.Tables.{Owns}
-use Rattle.plan.specs.declared.refusal.Refusal.TheVariants.{FrameShared}
+use Rattle.plan.specs.declared.refusal.Refusal.TheVariants.{ChannelPage, FrameShared, FramesMissing, RootRule, TableMalformed}
 use Rattle.plan.specs.Format.{plan_of}
+use Rattle.plan.specs.Rules.{ample}
 use Rattle.checker.specs.Checked.{accepted, checked}
 use Rattle.checker.specs.Pages.{ends_at}
-use Rattle.sample.specs.Memory.{Layout, memory, two}
+use Rattle.sample.specs.Memory.{Layout, memory, planned, two}
 
 -- a lent frame that is none of the first partition's, nor the second's root
 abbrev pub Free : Layout → ℕ → Type 0
@@ -38,7 +39,9 @@ here = record { table = 4; code = 5; mailbox = 7; frames = 8 }
 abbrev pub there : Layout
 there = record { table = 5; code = 4; mailbox = 8; frames = 9 }
 
+-- and the plan's budget is the least that is ample
 pub record Examples : Type 0 where
+  pub budget : ample (plan_of two) ≡ 1754
   pub one : (content : ℕ → ℕ → ℕ) → Stands here content
   pub other : (content : ℕ → ℕ → ℕ) → Stands there content
 
@@ -54,10 +57,39 @@ Agrees =
 abbrev pub Differs : Type 0
 Differs = (content other : ℕ → ℕ → ℕ) → word (memory here content) 3 0 ≢ word (memory there other) 3 0
 
+-- the channel the other way round, to a page that its receiver may write
+abbrev pub turned : List ℕ
+turned = planned 3 1 0 17
+
+-- the root of the first for both, whose page 16 may be read and not written
+abbrev pub one_root : List ℕ
+one_root = planned 0 0 1 16
+
+-- one frame more than may be lent
+abbrev pub crowded : Layout
+crowded = record { table = 4; code = 5; mailbox = 7; frames = 257 }
+
+-- a page of the second in the first frame past the 256
+abbrev pub past : Layout
+past = record { table = 4; code = 256; mailbox = 7; frames = 8 }
+
 -- page 16 of both partitions in frame 2
 abbrev pub shared : Layout
 shared = record { table = 4; code = 2; mailbox = 7; frames = 8 }
 
--- a frame that two partitions name is refused at the later one
-abbrev pub Refuses : Type 0
-Refuses = (content : ℕ → ℕ → ℕ) → checked two (memory shared content) ≡ Err (FrameShared 1)
+-- the frame on which the second receives, or the table that leads there, is not lent
+abbrev pub short : Layout
+short = record { table = 4; code = 5; mailbox = 7; frames = 7 }
+
+abbrev pub tableless : Layout
+tableless = record { table = 8; code = 5; mailbox = 7; frames = 8 }
+
+-- each is refused by its rule, at its place
+pub record Refuses : Type 0 where
+  pub receiver_writes : (content : ℕ → ℕ → ℕ) → checked turned (memory here content) ≡ Err (ChannelPage 0)
+  pub root_twice : (content : ℕ → ℕ → ℕ) → checked one_root (memory here content) ≡ Err (RootRule 1)
+  pub too_many : (content : ℕ → ℕ → ℕ) → checked two (memory crowded content) ≡ Err (RootRule 0)
+  pub no_frame : (content : ℕ → ℕ → ℕ) → checked two (memory past content) ≡ Err (TableMalformed 1)
+  pub both_name : (content : ℕ → ℕ → ℕ) → checked two (memory shared content) ≡ Err (FrameShared 1)
+  pub mailbox_missing : (content : ℕ → ℕ → ℕ) → checked two (memory short content) ≡ Err FramesMissing
+  pub table_missing : (content : ℕ → ℕ → ℕ) → checked two (memory tableless content) ≡ Err FramesMissing

@@ -1,16 +1,19 @@
-// The checker run on the sample's plan and memory: what the theorems say, and three more verdicts.
+// The checker run on the sample's plans and memories: what the theorems say, and more verdicts.
 use checker::check as judge;
 use std::alloc::{AllocError, Global};
 use std::test::Fail;
 
-const PLAN: [u8; 39] = [
-    2, 2, 1, 0xda, 0x06, 0, 0, //
-    0, 0, 0, 0, 1, 0, //
-    3, 0, 0, 0, 1, 0, //
-    0, 200, 0, 0, 0, //
-    1, 128, 0, 0, 0, //
-    0, 1, 17, 0, 0, 0, 17, 0, 0, 0,
-];
+// The plan, but for the root of the second partition, and the channel's sender, receiver and the receiver's page.
+fn planned(root: u8, sender: u8, receiver: u8, page: u8) -> [u8; 39] {
+    [
+        2, 2, 1, 0xda, 0x06, 0, 0, //
+        0, 0, 0, 0, 1, 0, //
+        root, 0, 0, 0, 1, 0, //
+        0, 200, 0, 0, 0, //
+        1, 128, 0, 0, 0, //
+        sender, receiver, 17, 0, 0, 0, page, 0, 0, 0,
+    ]
+}
 
 const POINTER: u32 = 0x01;
 
@@ -50,8 +53,8 @@ fn memory(heap: Global, layout: Layout, frames: usize) -> Result<Vec<u32>, Alloc
 }
 
 // The frame that the channel's receiver has, or number and place of the refusal.
-fn verdict(words: &[u32]) -> Result<u32, (u8, usize)> {
-    match judge(&PLAN, words) {
+fn verdict(plan: &[u8], words: &[u32]) -> Result<u32, (u8, usize)> {
+    match judge(plan, words) {
         Ok(accepted) => {
             let [ends, ..] = accepted.ends;
             Ok(ends.receiver)
@@ -69,6 +72,10 @@ fn layouts(rt: HostRuntime) -> Result<(), Fail> {
         (4, 2, 7, READS, 8, Err((8, 1))),
         (4, 5, 7, WRITES, 8, Err((5, 0))),
         (4, 5, 7, READS, 7, Err((11, 0))),
+        (8, 5, 7, READS, 8, Err((11, 0))),
+        (4, 5, 256, READS, 8, Err((5, 0))),
+        (4, 256, 7, READS, 8, Err((7, 1))),
+        (4, 5, 7, READS, 257, Err((6, 0))),
         (4, 4, 7, READS, 8, Err((8, 1))),
     ] {
         let layout = Layout {
@@ -78,7 +85,31 @@ fn layouts(rt: HostRuntime) -> Result<(), Fail> {
             flags,
         };
         let words = memory(rt.alloc(), layout, frames)?;
-        assert_eq!(rt; verdict(&words), expected);
+        assert_eq!(rt; verdict(&planned(3, 0, 1, 17), &words), expected);
+    }
+    Ok(())
+}
+
+#[test]
+fn plans(rt: HostRuntime) -> Result<(), Fail> {
+    let layout = Layout {
+        table: 4,
+        code: 5,
+        mailbox: 7,
+        flags: READS,
+    };
+    let words = memory(rt.alloc(), layout, 8)?;
+    // the second partition's root, sender, receiver, its page; the verdict
+    for (root, sender, receiver, page, expected) in [
+        (3, 0, 1, 17, Ok(7)),
+        (3, 0, 1, 16, Ok(5)),
+        (3, 1, 0, 17, Err((5, 0))),
+        (0, 0, 1, 16, Err((6, 1))),
+    ] {
+        assert_eq!(rt;
+            verdict(&planned(root, sender, receiver, page), &words),
+            expected
+        );
     }
     Ok(())
 }

@@ -1,5 +1,6 @@
 use Rattle.sample.proofs.Pair.{agrees, differs}
-use Rattle.sample.proofs.Verdicts.{accepts, examples, refuses}
+use Rattle.sample.proofs.Refused.{refuses}
+use Rattle.sample.proofs.Verdicts.{accepts, examples}
 use Rattle.sample.proofs.laws.Goals as goal
 
 pub returns : goal.returns

@@ -1,0 +1,328 @@
+-- The sample with one rule broken, and what the checker answers.
+use Rattle.std.proofs.Common.{◌≡◌, ℕ, zero, suc, ◌<◌, Bool, true, false, List, Some, None, Err, Decides, Option, sym, refl, ap, subst, inl, inr, arith}
+use Rattle.std.proofs.lemmas.Bool.{cases_Bool, true≢false}
+use Rattle.words.specs.First.{count, first, most, or_else, unless}
+use Rattle.words.specs.Frames.{word}
+use Rattle.words.proofs.First.{any_here, below_none, first_more, first_none, first_stays}
+use Rattle.paging.specs.Entries.{flag}
+use Rattle.paging.specs.Mapping.{Pointer}
+use Rattle.plan.specs.declared.model.Endpoint.{Endpoint}
+use Rattle.plan.specs.declared.model.Plan.{Plan}
+use Rattle.plan.specs.declared.refusal.Refusal.{Refusal}
+use Rattle.plan.specs.declared.refusal.Refusal.TheVariants.{ChannelPage, FrameShared, FramesMissing, RootRule, TableMalformed}
+use Rattle.plan.specs.Format.{plan_of, rows}
+use Rattle.plan.specs.Rules.{budget_fault, channel, channel_fault, count_fault, slot_fault, start_fault, surplus, truncated}
+use Rattle.checker.specs.declared.fault.Fault.TheVariants.{Broken}
+use Rattle.checker.specs.Checked.{accepted, checked, first_refusal}
+use Rattle.checker.specs.Faults.{refused_by}
+use Rattle.checker.specs.Lawful.{AllLent, Apart, Formed, Leads, PagesFit, PagesUnread, PageUnread, RootFits, Usable, root}
+use Rattle.checker.specs.Pages.{behind, end_frame, ends_fault, ends_refusal}
+use Rattle.checker.specs.Roots.{root_kept, root_refusal}
+use Rattle.checker.specs.Sharing.{apart_kept, lent_kept, lent_refusal, share_refusal}
+use Rattle.checker.specs.Tables.{bad_leaf_at, bad_table, entry_fault, entry_fault_at, root_fault, table_fault, table_refusal}
+use Rattle.checker.proofs.Conflicts.{apart_decides, lent_decides}
+use Rattle.checker.proofs.Ended.{leads_looked, usable_end}
+use Rattle.checker.proofs.Forms.{formed_none, lent_tells}
+use Rattle.checker.proofs.Joined.{fit_none, unread_unlent}
+use Rattle.checker.proofs.Leading.{named_leaf}
+use Rattle.checker.proofs.Staged.{root_decides}
+use Rattle.sample.specs.Memory.{Layout, memory, two}
+use Rattle.sample.specs.Verdicts.{Refuses, crowded, here, one_root, past, shared, short, tableless, turned}
+use Rattle.sample.proofs.Entries.{pointer}
+use Rattle.sample.proofs.Laid.{Tabled, formed, formed_0, held_0, leads_first_16, leads_first_17, leads_second_17, lent_at, long, named_0, names_2, names_code, pages, roots, there, word_at}
+use Rattle.sample.proofs.Verdicts.{Spread, differ, none_shared}
+
+refuted : {P : Type 0} (t : Bool) → Decides t P → (P → ⊥) → t ≡ false
+refuted t d h = elim (cases_Bool t) [ inl e ↦ absurd (h (d.0 e)) | inr e ↦ e ]
+
+-- of the rules on frames, the first that refuses; in between come rules that a plan with its own rules kept passes
+on_frames : (five six seven eight eleven : Option Refusal) → Option Refusal
+on_frames five six seven eight eleven = or_else five (or_else six (or_else seven (or_else eight eleven)))
+
+decided : {X : Type 0} (five six seven eight eleven : Option Refusal) (e : Refusal) (x : X) → on_frames five six seven eight eleven ≡ Some e →
+    unless (or_else five (or_else six (or_else seven (or_else eight (or_else None (or_else None (or_else eleven None))))))) x ≡ Err e
+unfolding on_frames
+decided (Some d) b c f g e x h = cc
+decided None (Some d) c f g e x h = cc
+decided None None (Some d) f g e x h = cc
+decided None None None (Some d) g e x h = cc
+decided None None None None (Some d) e x h = cc
+decided None None None None None e x h = absurd (let z : ◌≡◌ {A = ℕ} 0 1 = cc in omega arith)
+
+module _ (bytes ws : List ℕ) where
+  faults : Option Refusal
+  faults =
+      let p = plan_of bytes in
+      on_frames (first (ends_refusal ws p) p.counts.channels) (first (root_refusal ws p) p.counts.partitions) (first (table_refusal ws p) p.counts.partitions)
+      (first (share_refusal ws p) p.counts.partitions) (lent_refusal ws p)
+
+  refused : truncated bytes (plan_of bytes) ≡ None → first (count_fault (plan_of bytes).counts) 3 ≡ None → first (slot_fault (plan_of bytes)) (plan_of bytes).counts.slots ≡ None →
+      first (channel_fault (plan_of bytes)) (plan_of bytes).counts.channels ≡ None → first (start_fault (plan_of bytes)) (plan_of bytes).counts.partitions ≡ None →
+      budget_fault (plan_of bytes) ≡ None → surplus bytes (plan_of bytes) ≡ None → (e : Refusal) → faults ≡ Some e → checked bytes ws ≡ Err e
+  unfolding checked first_refusal faults
+  refused t c s h st b su e f =
+      let p = plan_of bytes in
+      rw (t, c, s, h, st, b, su) (decided (first (ends_refusal ws p) p.counts.channels) (first (root_refusal ws p) p.counts.partitions) (first (table_refusal ws p) p.counts.partitions)
+      (first (share_refusal ws p) p.counts.partitions) (lent_refusal ws p) e (accepted ws p) f)
+
+  pages_none : ((k : ℕ) → k < (plan_of bytes).counts.channels → PagesFit ws (plan_of bytes) k) → first (ends_refusal ws (plan_of bytes)) (plan_of bytes).counts.channels ≡ None
+  pages_none h = below_none (ends_refusal ws (plan_of bytes)) (plan_of bytes).counts.channels (λ k l. rw (fit_none ws (plan_of bytes) k (h k l)) refl)
+
+  root_none : (k : ℕ) → RootFits ws (plan_of bytes) k → root_refusal ws (plan_of bytes) k ≡ None
+  root_none k h = rw ((root_decides bytes ws (plan_of bytes) k).1 h) refl
+
+  root_some : (k : ℕ) → (RootFits ws (plan_of bytes) k → ⊥) → root_refusal ws (plan_of bytes) k ≡ Some (RootRule k)
+  root_some k h = rw (refuted (root_kept ws (plan_of bytes) k) (root_decides bytes ws (plan_of bytes) k) h) refl
+
+  roots_none : ((k : ℕ) → k < (plan_of bytes).counts.partitions → RootFits ws (plan_of bytes) k) → first (root_refusal ws (plan_of bytes)) (plan_of bytes).counts.partitions ≡ None
+  roots_none h = below_none (root_refusal ws (plan_of bytes)) (plan_of bytes).counts.partitions (λ k l. root_none k (h k l))
+
+  table_none : (k : ℕ) → Formed ws (root (plan_of bytes) k) → table_refusal ws (plan_of bytes) k ≡ None
+  table_none k h = rw (formed_none ws (root (plan_of bytes) k) h) refl
+
+  tables_none : ((k : ℕ) → k < (plan_of bytes).counts.partitions → Formed ws (root (plan_of bytes) k)) → first (table_refusal ws (plan_of bytes)) (plan_of bytes).counts.partitions ≡ None
+  tables_none h = below_none (table_refusal ws (plan_of bytes)) (plan_of bytes).counts.partitions (λ k l. table_none k (h k l))
+
+  module _ (ok : (k : ℕ) → k < (plan_of bytes).counts.partitions → Formed ws (root (plan_of bytes) k)) where
+    apart_none : (k : ℕ) → k < (plan_of bytes).counts.partitions → Apart ws (plan_of bytes) k → share_refusal ws (plan_of bytes) k ≡ None
+    apart_none k l h = rw ((apart_decides ws (plan_of bytes) k (λ q b. ok q (omega arith))).1 h) refl
+
+    conflict_some : (k : ℕ) → k < (plan_of bytes).counts.partitions → (Apart ws (plan_of bytes) k → ⊥) → share_refusal ws (plan_of bytes) k ≡ Some (FrameShared k)
+    conflict_some k l h = rw (refuted (apart_kept ws (plan_of bytes) k) (apart_decides ws (plan_of bytes) k (λ q b. ok q (omega arith))) h) refl
+
+    missing_some : (AllLent ws (plan_of bytes) → ⊥) → lent_refusal ws (plan_of bytes) ≡ Some FramesMissing
+    missing_some h = rw (refuted (lent_kept ws (plan_of bytes)) (lent_decides ws (plan_of bytes) ok) h) refl
+
+module _ (ws : List ℕ) (p : Plan) where
+  -- a page that may be written receives on nothing
+  written_end : (end : Endpoint) (f : ℕ) (x : Bool) → Leads ws (root p end.partition) end.page (record { frame = f; readable = true; writable = true; executable = x }) → end_frame ws p end true ≡ Err Broken
+  unfolding end_frame
+  written_end end f x h = rw (leads_looked ws (root p end.partition) end.page _ h) refl
+
+  receiver_some : (k f : ℕ) → Usable ws p (channel p k).sender false f → end_frame ws p (channel p k).receiver true ≡ Err Broken → ends_refusal ws p k ≡ Some (ChannelPage k)
+  unfolding ends_fault behind
+  receiver_some k f u e = rw (usable_end ws p (channel p k).sender false f u, e) refl
+
+here_tabled : Tabled here
+here_tabled = record { enough = omega arith; table = (omega arith, (λ e. omega arith), omega arith); below = omega arith; mailbox = omega arith }
+
+crowded_tabled : Tabled crowded
+crowded_tabled = record { enough = omega arith; table = (omega arith, (λ e. omega arith), omega arith); below = omega arith; mailbox = omega arith }
+
+past_tabled : Tabled past
+past_tabled = record { enough = omega arith; table = (omega arith, (λ e. omega arith), omega arith); below = omega arith; mailbox = omega arith }
+
+shared_tabled : Tabled shared
+shared_tabled = record { enough = omega arith; table = (omega arith, (λ e. omega arith), omega arith); below = omega arith; mailbox = omega arith }
+
+short_spread : Spread short
+short_spread = record {
+  tabled = record { enough = omega arith; table = (omega arith, (λ e. omega arith), omega arith); below = omega arith; mailbox = omega arith };
+  code = (omega arith, λ e. omega arith);
+  mailbox = (omega arith, λ e. omega arith);
+  code_apart = λ e. omega arith;
+  mailbox_apart = λ e. omega arith;
+}
+
+-- the plan's own rules are kept in each case, so a refusal is that of the first rule on frames
+module _ (ws : List ℕ) (e : Refusal) where
+  refused_two : faults two ws ≡ Some e → checked two ws ≡ Err e
+  unfolding first count most plan_of rows
+  refused_two = refused two ws refl refl refl refl refl refl refl e
+
+  refused_turned : faults turned ws ≡ Some e → checked turned ws ≡ Err e
+  unfolding first count most plan_of rows
+  refused_turned = refused turned ws refl refl refl refl refl refl refl e
+
+  refused_one_root : faults one_root ws ≡ Some e → checked one_root ws ≡ Err e
+  unfolding first count most plan_of rows
+  refused_one_root = refused one_root ws refl refl refl refl refl refl refl e
+
+module _ (content : ℕ → ℕ → ℕ) where
+  turned_some : first (ends_refusal (memory here content) (plan_of turned)) (plan_of turned).counts.channels ≡ Some (ChannelPage 0)
+  unfolding plan_of rows
+  turned_some =
+      let ws = memory here content in
+      let p = plan_of turned in
+      let sender : Usable ws p (channel p 0).sender false 7 =
+      record { leaf = _; leads = leads_second_17 here content here_tabled; readable = refl; not_writable = λ e. refl; frame_is = refl } in
+      first_stays (ends_refusal ws p) 0 p.counts.channels (ChannelPage 0) (omega arith) (first_none (ends_refusal ws p))
+      (receiver_some ws p 0 7 sender (written_end ws p (channel p 0).receiver 6 false (leads_first_17 here content (omega arith))))
+
+  receiver_writes : checked turned (memory here content) ≡ Err (ChannelPage 0)
+  unfolding faults on_frames
+  receiver_writes = refused_turned (memory here content) (ChannelPage 0) (rw turned_some refl)
+
+  one_root_pages : (k : ℕ) → k < (plan_of one_root).counts.channels → PagesFit (memory here content) (plan_of one_root) k
+  unfolding plan_of rows
+  one_root_pages zero g = record {
+    ends = record { sender = 6; receiver = 2 };
+    joins = record {
+      sender = record { leaf = _; leads = leads_first_17 here content (omega arith); readable = refl; not_writable = λ e. absurd (true≢false (sym e)); frame_is = refl };
+      receiver = record { leaf = _; leads = leads_first_16 here content (omega arith); readable = refl; not_writable = λ e. refl; frame_is = refl };
+    };
+    alone = λ j b. absurd (omega arith);
+  }
+  one_root_pages (suc k) g = absurd (omega arith)
+
+  one_root_some : first (root_refusal (memory here content) (plan_of one_root)) (plan_of one_root).counts.partitions ≡ Some (RootRule 1)
+  unfolding plan_of rows
+  one_root_some =
+      let ws = memory here content in
+      let p = plan_of one_root in
+      let size = long here content in
+      first_stays (root_refusal ws p) 1 p.counts.partitions (RootRule 1) (omega arith)
+      (first_more (root_refusal ws p) 0 (first_none (root_refusal ws p)) (root_none one_root ws 0 (record { few = omega (arith, size); below = omega arith; own = λ j b e. omega arith })))
+      (root_some one_root ws 1 (λ f. f.own 0 (omega arith) refl))
+
+  root_twice : checked one_root (memory here content) ≡ Err (RootRule 1)
+  unfolding faults on_frames
+  root_twice = refused_one_root (memory here content) (RootRule 1) (rw (pages_none one_root (memory here content) one_root_pages, one_root_some) refl)
+
+  crowded_some : first (root_refusal (memory crowded content) (plan_of two)) (plan_of two).counts.partitions ≡ Some (RootRule 0)
+  unfolding plan_of rows
+  crowded_some =
+      let ws = memory crowded content in
+      let p = plan_of two in
+      let size = long crowded content in
+      first_stays (root_refusal ws p) 0 p.counts.partitions (RootRule 0) (omega arith) (first_none (root_refusal ws p)) (root_some two ws 0 (λ f. omega (arith, size, f.few)))
+
+  too_many : checked two (memory crowded content) ≡ Err (RootRule 0)
+  unfolding faults on_frames
+  too_many = refused_two (memory crowded content) (RootRule 0) (rw (pages_none two (memory crowded content) (pages crowded content crowded_tabled), crowded_some) refl)
+
+  past_leaf : bad_leaf_at (memory past content) 4 16 ≡ true
+  unfolding flag
+  past_leaf = rw (word_at past content 4 16 (omega arith) (omega arith)) refl
+
+  past_table : table_fault (memory past content) 4 ≡ Some Broken
+  unfolding table_fault bad_table
+  past_table =
+      let ws = memory past content in
+      rw ((lent_tells ws 4).1 (lent_at past content 4 (omega arith)), any_here (bad_leaf_at ws 4) 1024 16 (omega arith) past_leaf) refl
+
+  past_entry : entry_fault_at (memory past content) 3 0 ≡ Some Broken
+  unfolding entry_fault flag
+  past_entry = rw (word_at past content 3 0 (omega arith) (omega arith)) past_table
+
+  past_root : root_fault (memory past content) 3 ≡ Some Broken
+  unfolding root_fault
+  past_root =
+      let ws = memory past content in
+      rw ((lent_tells ws 3).1 (lent_at past content 3 (omega arith)))
+      (first_stays (entry_fault_at ws 3) 0 1024 Broken (omega arith) (first_none (entry_fault_at ws 3)) past_entry)
+
+  past_some : first (table_refusal (memory past content) (plan_of two)) (plan_of two).counts.partitions ≡ Some (TableMalformed 1)
+  unfolding plan_of rows
+  past_some =
+      let ws = memory past content in
+      let p = plan_of two in
+      first_stays (table_refusal ws p) 1 p.counts.partitions (TableMalformed 1) (omega arith)
+      (first_more (table_refusal ws p) 0 (first_none (table_refusal ws p)) (table_none two ws 0 (formed_0 past content (omega arith))))
+      (ap (refused_by (TableMalformed 1)) past_root)
+
+  no_frame : checked two (memory past content) ≡ Err (TableMalformed 1)
+  unfolding faults on_frames
+  no_frame = refused_two (memory past content) (TableMalformed 1) (rw (
+    pages_none two (memory past content) (pages past content past_tabled),
+    roots_none two (memory past content) (roots past content past_tabled (omega arith)),
+    past_some,
+  ) refl)
+
+  -- the first partition is in conflict with none before it, itself included
+  apart_0 : (l : Layout) → Tabled l → Apart (memory l content) (plan_of two) 0
+  unfolding plan_of rows
+  apart_0 l h zero g (inl (f, n, inl m)) = m.0 refl
+  apart_0 l h zero g (inl (f, n, inr k)) = differ 2 6 0 1 f (named_0 l content h.enough f n) (held_0 l content h.enough f k) (λ e. omega arith) (λ e. omega arith) (λ e. omega arith) (λ e. omega arith)
+  apart_0 l h zero g (inr (f, n, inl m)) = m.0 refl
+  apart_0 l h zero g (inr (f, n, inr k)) = differ 2 6 0 1 f (named_0 l content h.enough f n) (held_0 l content h.enough f k) (λ e. omega arith) (λ e. omega arith) (λ e. omega arith) (λ e. omega arith)
+  apart_0 l h (suc j) g c = omega arith
+
+  -- the second names the first one's frame 2
+  not_apart_1 : Apart (memory shared content) (plan_of two) 1 → ⊥
+  unfolding plan_of rows
+  not_apart_1 apart = apart 0 (omega arith) (inl (2, names_code shared content shared_tabled, inl ((λ e. omega arith), names_2 shared content (omega arith))))
+
+  shared_some : first (share_refusal (memory shared content) (plan_of two)) (plan_of two).counts.partitions ≡ Some (FrameShared 1)
+  unfolding plan_of
+  shared_some =
+      let ws = memory shared content in
+      let p = plan_of two in
+      let ok = formed shared content shared_tabled (omega arith) in
+      first_stays (share_refusal ws p) 1 p.counts.partitions (FrameShared 1) (omega arith)
+      (first_more (share_refusal ws p) 0 (first_none (share_refusal ws p)) (apart_none two ws ok 0 (omega arith) (apart_0 shared shared_tabled)))
+      (conflict_some two ws ok 1 (omega arith) not_apart_1)
+
+  both_name : checked two (memory shared content) ≡ Err (FrameShared 1)
+  unfolding faults on_frames
+  both_name = refused_two (memory shared content) (FrameShared 1) (rw (
+    pages_none two (memory shared content) (pages shared content shared_tabled),
+    roots_none two (memory shared content) (roots shared content shared_tabled (omega arith)),
+    tables_none two (memory shared content) (formed shared content shared_tabled (omega arith)),
+    shared_some,
+  ) refl)
+
+  short_missing : AllLent (memory short content) (plan_of two) → ⊥
+  unfolding plan_of rows
+  short_missing all =
+      let size = long short content in
+      let missing = all 1 7 (omega arith) (named_leaf (memory short content) 3 17 _ (leads_second_17 short content short_spread.tabled)) in
+      omega (arith, size, missing)
+
+  short_apart : first (share_refusal (memory short content) (plan_of two)) (plan_of two).counts.partitions ≡ None
+  short_apart =
+      let ws = memory short content in
+      let p = plan_of two in
+      let ok = formed short content short_spread.tabled (omega arith) in
+      below_none (share_refusal ws p) p.counts.partitions (λ k l. apart_none two ws ok k l (λ j b c. elim c [
+        | inl x ↦ none_shared short content short_spread k j l (omega (arith, l)) x
+        | inr x ↦ none_shared short content short_spread j k (omega (arith, l)) l x
+      ]))
+
+  mailbox_missing : checked two (memory short content) ≡ Err FramesMissing
+  unfolding faults on_frames
+  mailbox_missing =
+      let ws = memory short content in
+      let h = short_spread.tabled in
+      let ok = formed short content h (omega arith) in
+      refused_two ws FramesMissing (rw (
+        pages_none two ws (pages short content h),
+        roots_none two ws (roots short content h (omega arith)),
+        tables_none two ws ok,
+        short_apart,
+        missing_some two ws ok short_missing,
+      ) refl)
+
+  tableless_unread : PagesUnread (memory tableless content) (plan_of two) 0
+  unfolding plan_of rows
+  tableless_unread =
+      let ws = memory tableless content in
+      let size = long tableless content in
+      let points : Pointer (word ws 3 0) 8 = subst (λ e. Pointer e 8) (sym (word_at tableless content 3 0 (omega arith) (omega arith))) (pointer 8) in
+      inr (
+        (6, record { leaf = _; leads = leads_first_17 tableless content (omega arith); readable = refl; not_writable = λ e. absurd (true≢false (sym e)); frame_is = refl }),
+        PageUnread.no_table 0 17 8 (omega arith) (omega arith) refl (there tableless content 3 (omega arith) (omega arith)) points (omega arith) (λ lent. omega (arith, size, lent)),
+      )
+
+  tableless_some : first (ends_refusal (memory tableless content) (plan_of two)) (plan_of two).counts.channels ≡ Some FramesMissing
+  unfolding plan_of
+  tableless_some =
+      let ws = memory tableless content in
+      let p = plan_of two in
+      first_stays (ends_refusal ws p) 0 p.counts.channels FramesMissing (omega arith) (first_none (ends_refusal ws p))
+      (ap (refused_by (ChannelPage 0)) (unread_unlent ws p 0 tableless_unread))
+
+  table_missing : checked two (memory tableless content) ≡ Err FramesMissing
+  unfolding faults on_frames
+  table_missing = refused_two (memory tableless content) FramesMissing (rw tableless_some refl)
+
+pub refuses : Refuses
+refuses = record {
+  receiver_writes = receiver_writes;
+  root_twice = root_twice;
+  too_many = too_many;
+  no_frame = no_frame;
+  both_name = both_name;
+  mailbox_missing = mailbox_missing;
+  table_missing = table_missing;
+}
