@@ -87,7 +87,7 @@ module _ where
   unlent_entered v q o a b e = rw (a, b) e
 
 module _ (ws : List ℕ) where
-  fault_none : (t : ℕ) → table_fault ws t ≡ None → InMemory ws t × TableFormed ws t
+  pub fault_none : (t : ℕ) → table_fault ws t ≡ None → InMemory ws t × TableFormed ws t
   unfolding table_fault tested
   fault_none t e =
       let z = tested_none (ltb t 256) (lent ws t) (bad_table ws t) e in

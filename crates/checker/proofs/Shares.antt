@@ -1,7 +1,8 @@
 -- Marks of the partitions so far decide the rules on named frames.
-use Rattle.std.proofs.Common.{◌≡◌, ℕ, ◌+◌, Bool, true, false, not, ◌||◌, List, replicate, Some, None, sym, refl, ap, ◌∙◌}
+use Rattle.std.proofs.Common.{◌≡◌, ℕ, ◌+◌, Bool, false, not, ◌||◌, List, replicate, Some, None, Option, add-one, sym, refl, ap, ◌∙◌}
+use Rattle.std.specs.Option.{option_or}
 use Rattle.std.proofs.lemmas.List.{get_or-replicate}
-use Rattle.words.specs.First.{any}
+use Rattle.words.specs.First.{any, first}
 use Rattle.words.proofs.First.{any_none, any_step, any_same}
 use Rattle.plan.specs.declared.model.Plan.{Plan}
 use Rattle.plan.specs.declared.refusal.Refusal.TheVariants.{FrameShared, FramesMissing}
@@ -24,13 +25,15 @@ module _ (ws : List ℕ) (p : Plan) (k : ℕ) (own earlier : Claims)
   unfolding clash_at
   same_clash = any_same (clash_claims own earlier) (clash_at ws p k) 256 (λ f l. rw (a f l, b f l, c f l, d f l) refl)
 
-  pub shared_here : any (clash_claims own earlier) 256 ≡ true → share_refusal ws p k ≡ Some (FrameShared k)
+  pub shared_here : broken_unless (not (any (clash_claims own earlier) 256)) (FrameShared k) ≡ share_refusal ws p k
   unfolding apart_kept
-  shared_here e = rw (sym same_clash ∙ e) refl
+  shared_here = ap (λ b. broken_unless (not b) (FrameShared k)) same_clash
 
-  pub apart_here : any (clash_claims own earlier) 256 ≡ false → share_refusal ws p k ≡ None
-  unfolding apart_kept
-  apart_here e = rw (sym same_clash ∙ e) refl
+-- the first of all places, from one place on
+pub first_after : {X : Type 0} (f : ℕ → Option X) (n : ℕ) (was more : Option X) → was ≡ first f n → more ≡ f n → option_or was more ≡ first f (n + 1)
+unfolding first
+first_after f n None more a b = rw (add-one, sym a) b
+first_after f n (Some x) more a b = rw (add-one, sym a) refl
 
 pub missing_here : (ws : List ℕ) (p : Plan) (marks : Marks) (b : Bool) → Joined (named_at ws p) marks p.counts.partitions → b ≡ any (missing_mark ws marks) 256 → lent_refusal ws p ≡ broken_unless (not b) FramesMissing
 unfolding lent_kept missing_at

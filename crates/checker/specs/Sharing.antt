@@ -1,6 +1,6 @@
 -- The rules on the frames that partitions name, as tests.
-use Rattle.std.specs.Prelude.{ℕ, ⊤, Bool, not, ◌&&◌, ◌||◌, List, Ok, Err, Option, Result}
-use Rattle.words.specs.First.{any}
+use Rattle.std.specs.Prelude.{◌≡◌, ℕ, Bool, not, ◌&&◌, ◌||◌, List, Option}
+use Rattle.words.specs.First.{any, first}
 use Rattle.words.specs.Frames.{lent}
 use Rattle.plan.specs.declared.model.Plan.{Plan}
 use Rattle.plan.specs.declared.refusal.Refusal.{Refusal}
@@ -8,6 +8,7 @@ use Rattle.plan.specs.declared.refusal.Refusal.TheVariants.{FrameShared, FramesM
 use Rattle.plan.specs.Rules.{broken_unless, partition}
 use Rattle.checker.specs.declared.claims.Claims.{Claims}
 use Rattle.checker.specs.declared.marks.Marks.{Marks}
+use Rattle.checker.specs.declared.sharing.Naming.{Naming}
 use Rattle.checker.specs.Marks.{Shows, kernel_test, marked, names}
 
 -- of the partition with a number: it names the frame, or has it as a kernel frame
@@ -37,10 +38,9 @@ share_refusal words p k = broken_unless (apart_kept words p k) (FrameShared k)
 abbrev pub Joined : (ℕ → ℕ → Bool) → Marks → ℕ → Type 0
 Joined by marks n = Shows marks (λ f. any (by f) n)
 
--- whether marks are given, or the refusal
-abbrev pub cleared : Result Marks Refusal → Result ⊤ Refusal
-cleared (Ok named) = Ok tt
-cleared (Err e) = Err e
+-- the first partition that shares a frame is found, and all that is named is marked
+abbrev pub Gathers : List ℕ → Plan → Naming → Type 0
+Gathers words p x = (x.shared ≡ first (share_refusal words p) p.counts.partitions) × Joined (named_at words p) x.named p.counts.partitions
 
 abbrev pub missing_mark : List ℕ → Marks → ℕ → Bool
 missing_mark words marks f = marked marks f && not (lent words f)

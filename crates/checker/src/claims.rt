@@ -1,7 +1,7 @@
 // What partitions claim: the frames that their tables name, and their kernel frames, which are roots and tables.
 ghost use Rattle.std.specs.Prelude.{◌≡◌, ◌||◌};
 ghost use Rattle.words.specs.First.{any};
-ghost use Rattle.checker.specs.Marks.{Shows, kernel_test, marked, names};
+ghost use Rattle.checker.specs.Marks.{Shows, marked};
 ghost use Rattle.checker.specs.Sharing.{clash, clash_claims};
 
 use crate::marks::Marks;
@@ -26,20 +26,6 @@ impl Claims {
         named: Marks::NONE,
         kernel: Marks::NONE,
     };
-
-    // What the partition under a root claims. Each table is read once.
-    pub(crate) fn of(words: &[u32], root: u32) -> Claims
-        ensures named { Shows result.named (names words.now root) }
-        ensures kernel { Shows result.kernel (kernel_test words.now root) }
-    {
-        let tables = Marks::tables(words, root);
-        let mut kernel = tables;
-        kernel.mark(root);
-        Claims {
-            named: Marks::named(words, &tables),
-            kernel,
-        }
-    }
 
     pub(crate) fn add(&mut self, more: &Claims)
         ensures named { Shows self.new.named (λ f. marked self.old.named f || marked more.now.named f) }

@@ -16,8 +16,7 @@ pub mod tables;
 
 use crate::pages::{Ends, all_ends, check_pages};
 use crate::roots::check_roots;
-use crate::sharing::{check_lent, check_sharing};
-use crate::tables::check_tables;
+use crate::sharing::Naming;
 use plan::model::{MOST_CHANNELS, Plan};
 use plan::refusal::Refusal;
 
@@ -49,11 +48,11 @@ fn first_refusal(bytes: &[u8], words: &[u32]) -> Result<Accepted, Refusal>
     plan.check_channels()?;
     check_pages(words, &plan)?;
     check_roots(words, &plan)?;
-    check_tables(words, &plan)?;
-    let named = check_sharing(words, &plan)?;
+    let naming = Naming::check_tables(words, &plan)?;
+    naming.check_shared()?;
     plan.check_starts()?;
     plan.check_budget()?;
-    check_lent(words, &plan, &named)?;
+    naming.check_lent(words, &plan)?;
     plan.check_end(bytes)?;
     Ok(Accepted {
         plan,

@@ -1,13 +1,11 @@
 // Marks on the 256 frames.
-ghost use Rattle.std.specs.Prelude.{◌≡◌, ℕ, ◌<◌, Bool, ◌&&◌, ◌||◌, true, ◌==◌};
-ghost use Rattle.paging.specs.declared.entry.Entry.{Entry};
-ghost use Rattle.words.specs.First.{any};
-ghost use Rattle.checker.specs.Marks.{Shows, marked, named_through, passes, pointed};
+ghost use Rattle.std.specs.Prelude.{◌≡◌, ◌<◌, ◌&&◌, ◌||◌, true, ◌==◌};
+ghost use Rattle.paging.specs.Entries.{frame_of, is_valid};
+ghost use Rattle.checker.specs.Marks.{Shows, marked};
 
 use paging::entry::Entry;
-use paging::walk::{ENTRIES, MOST_FRAMES};
+use paging::walk::MOST_FRAMES;
 use std::array;
-use words::frames::read;
 
 const FRAMES: usize = MOST_FRAMES as usize;
 
@@ -43,39 +41,12 @@ impl Marks {
         self.marks = array::from_fn(|f| self.marks[f] || more.marks[f]);
     }
 
-    // Marks the frames of the entries of a table that pass a test.
-    // Here and below a loop and no chain: a proof knows nothing of what a chain's closure changes, and a fold would hand 256 marks on by value.
-    fn mark_entries<F: Fn(Entry) -> bool>(&mut self, words: &[u32], table: u32, test: F)
-        requires { F.IsAlwaysCallable test }
-        ensures { (by : ℕ → Bool) → ((entry : Entry) (b : Bool) → F.post test entry b → b ≡ by entry.0) → Shows self.new (λ f. marked self.old f || any (passes by words.now table f) 1024) }
+    // Marks the frame that an entry names, if it is valid.
+    pub(crate) fn mark_named(&mut self, entry: Entry)
+        ensures { Shows self.new (λ f. marked self.old f || (is_valid entry.0 && frame_of entry.0 == f)) }
     {
-        for k in 0..ENTRIES {
-            let entry = Entry(read(words, table, k));
-            if test(entry) {
-                self.mark(entry.frame());
-            }
+        if entry.is_valid() {
+            self.mark(entry.frame());
         }
-    }
-
-    // The tables that a root points to.
-    pub(crate) fn tables(words: &[u32], root: u32) -> Marks
-        ensures { Shows result (pointed words.now root) }
-    {
-        let mut tables = Marks::NONE;
-        tables.mark_entries(words, root, |entry| entry.is_pointer());
-        tables
-    }
-
-    // The frames that the marked tables name.
-    pub(crate) fn named(words: &[u32], tables: &Marks) -> Marks
-        ensures { Shows result (λ f. any (named_through words.now tables.now f) 256) }
-    {
-        let mut named = Marks::NONE;
-        for table in 0..MOST_FRAMES {
-            if tables.has(table) {
-                named.mark_entries(words, table, |entry| entry.is_valid());
-            }
-        }
-        named
     }
 }

@@ -1,47 +1,75 @@
 // The rules on the frames that partitions name: none is named by two, none is a kernel frame, and all are lent.
 // Words and plan, or words and root, are two parameters, as lib.rt says.
-ghost use Rattle.std.specs.Prelude.{◌≡◌, IfOk};
+ghost use Rattle.std.specs.Prelude.{◌≡◌, not, IfOk};
 ghost use Rattle.words.specs.First.{any, first, unless};
-ghost use Rattle.checker.specs.Sharing.{Joined, cleared, lent_refusal, missing_mark, named_at, share_refusal};
+ghost use Rattle.plan.specs.Rules.{broken_unless};
+ghost use Rattle.plan.specs.declared.refusal.Refusal.TheVariants.{FrameShared};
+ghost use Rattle.checker.specs.Faults.{cleared};
+ghost use Rattle.checker.specs.Sharing.{Gathers, Joined, clash_claims, lent_refusal, missing_mark, named_at, share_refusal};
+ghost use Rattle.checker.specs.Tables.{table_refusal};
 
 use crate::claims::Claims;
 use crate::marks::Marks;
-use crate::roots::root;
+use crate::tables::check_tables_of;
 use paging::walk::MOST_FRAMES;
 use plan::model::Plan;
 use plan::refusal::Refusal;
 use words::frames::is_lent;
 
-// What is named, where every frame that a partition names is its own and none a kernel frame.
-pub(crate) fn check_sharing(words: &[u32], plan: &Plan) -> Result<Marks, Refusal>
-    ensures value { cleared result ≡ unless (first (share_refusal words.now plan.now) plan.now.counts.partitions) tt }
-    ensures named { IfOk result (λ named. Joined (named_at words.now plan.now) named plan.now.counts.partitions) }
+// What all partitions name, and the refusal of the first that shares a frame.
+#[derive(Clone, Copy)]
+pub(crate) struct Naming {
+    named: Marks,
+    shared: Option<Refusal>,
+}
+
+fn shared_at(k: u8, own: &Claims, earlier: &Claims) -> Option<Refusal>
+    ensures { result ≡ broken_unless (not (any (clash_claims own.now earlier.now) 256)) (FrameShared k) }
 {
-    // a loop and no chain, as for the marks
-    let mut earlier = Claims::NONE;
-    for k in 0..plan.counts.partitions {
-        let own = Claims::of(words, root(plan, k));
-        if own.clashes(&earlier) {
-            return Err(Refusal::FrameShared(k));
+    own.clashes(earlier).then_some(Refusal::FrameShared(k))
+}
+
+impl Naming {
+    // Every root and table is read here, once for each partition that it belongs to. That all are well formed counts before what they share.
+    pub(crate) fn check_tables(words: &[u32], plan: &Plan) -> Result<Naming, Refusal>
+        ensures value { cleared result ≡ unless (first (table_refusal words.now plan.now) plan.now.counts.partitions) tt }
+        ensures gathers { IfOk result (Gathers words.now plan.now) }
+    {
+        // a loop and no chain, as for the tables
+        let mut earlier = Claims::NONE;
+        let mut shared = None;
+        for k in 0..plan.counts.partitions {
+            let own = check_tables_of(words, plan, k)?;
+            shared = shared.or(shared_at(k, &own, &earlier));
+            earlier.add(&own);
         }
-        earlier.add(&own);
+        Ok(Naming {
+            named: earlier.named,
+            shared,
+        })
     }
-    Ok(earlier.named)
-}
 
-fn has_missing(words: &[u32], named: &Marks) -> bool
-    ensures { result ≡ any (missing_mark words.now named.now) 256 }
-{
-    (0..MOST_FRAMES).any(|f| named.has(f) && !is_lent(words, f))
-}
-
-// Whether every frame that a partition names is lent. The marks are of what is named, so nothing is read again.
-pub(crate) fn check_lent(words: &[u32], plan: &Plan, named: &Marks) -> Result<(), Refusal>
-    requires { Joined (named_at words.now plan.now) named.now plan.now.counts.partitions }
-    ensures { result ≡ unless (lent_refusal words.now plan.now) tt }
-{
-    if has_missing(words, named) {
-        return Err(Refusal::FramesMissing);
+    // Whether every frame that a partition names is its own, and none a kernel frame.
+    pub(crate) fn check_shared(&self) -> Result<(), Refusal>
+        ensures { result ≡ unless self.now.shared tt }
+    {
+        self.shared.map_or(Ok(()), Err)
     }
-    Ok(())
+
+    fn has_missing(&self, words: &[u32]) -> bool
+        ensures { result ≡ any (missing_mark words.now self.now.named) 256 }
+    {
+        (0..MOST_FRAMES).any(|f| self.named.has(f) && !is_lent(words, f))
+    }
+
+    // Whether every frame that a partition names is lent.
+    pub(crate) fn check_lent(&self, words: &[u32], plan: &Plan) -> Result<(), Refusal>
+        requires { Joined (named_at words.now plan.now) self.now.named plan.now.counts.partitions }
+        ensures { result ≡ unless (lent_refusal words.now plan.now) tt }
+    {
+        if self.has_missing(words) {
+            return Err(Refusal::FramesMissing);
+        }
+        Ok(())
+    }
 }

@@ -1,9 +1,14 @@
 // The rule on the form of page tables: every valid entry of a root points to a table, and every valid entry of a table is a leaf.
+// Root and tables are read once for a partition, and what it claims is gathered on the way.
 // Words and plan, or words and root, are two parameters, as lib.rt says.
-ghost use Rattle.std.specs.Prelude.{◌≡◌};
+ghost use Rattle.std.specs.Prelude.{◌≡◌, ◌||◌, ◌==◌, false, Ok, IfOk};
 ghost use Rattle.words.specs.First.{first, unless};
-ghost use Rattle.checker.specs.Tables.{Known, bad_leaf, bad_table, entry_fault, entry_fault_at, root_fault, table_fault, table_refusal};
+ghost use Rattle.checker.specs.Faults.{cleared};
+ghost use Rattle.checker.specs.Lawful.{root};
+ghost use Rattle.checker.specs.Marks.{Shows, marked, names_in, points};
+ghost use Rattle.checker.specs.Tables.{Claimed, Gathered, bad_leaf, bad_table, entry_fault, entry_fault_at, root_fault, table_fault, table_refusal};
 
+use crate::claims::Claims;
 use crate::fault::{Fault, check_frame};
 use crate::marks::Marks;
 use crate::roots::root;
@@ -19,42 +24,55 @@ fn is_bad(entry: Entry) -> bool
     entry.is_valid() && !(entry.is_leaf() && entry.frame() < MOST_FRAMES)
 }
 
-fn is_bad_table(words: &[u32], table: u32) -> bool
-    ensures { result ≡ bad_table words.now table }
+// Whether a table is at fault; if not, what it names is marked.
+// Here and below a loop and no chain: a proof knows nothing of what a chain's closure changes.
+fn is_bad_table(words: &[u32], table: u32, named: &mut Marks) -> bool
+    ensures value { result ≡ bad_table words.now table }
+    ensures named { result ≡ false → Shows named.new (λ f. marked named.old f || names_in words.now table f) }
 {
-    (0..ENTRIES).any(|k| is_bad(Entry(read(words, table, k))))
+    for k in 0..ENTRIES {
+        let entry = Entry(read(words, table, k));
+        if is_bad(entry) {
+            return true;
+        }
+        named.mark_named(entry);
+    }
+    false
 }
 
 #[tactic(auto, unfolding(crate::specs::Tables::table_fault))]
-fn check_table(words: &[u32], table: u32) -> Result<(), Fault>
-    ensures { result ≡ unless (table_fault words.now table) tt }
+fn check_table(words: &[u32], table: u32, named: &mut Marks) -> Result<(), Fault>
+    ensures value { result ≡ unless (table_fault words.now table) tt }
+    ensures named { result ≡ Ok tt → Shows named.new (λ f. marked named.old f || names_in words.now table f) }
 {
     check_frame(words, table)?;
-    if is_bad_table(words, table) {
+    if is_bad_table(words, table, named) {
         return Err(Fault::Broken);
     }
     Ok(())
 }
 
-// `known` marks tables that were read and found without fault: each of them is read once.
-fn check_unless_known(words: &[u32], table: u32, known: &mut Marks) -> Result<(), Fault>
-    requires { Known words.now known.old }
+// A table that is marked was read and found without fault: each of them is read once.
+fn check_unless_known(words: &[u32], table: u32, claims: &mut Claims) -> Result<(), Fault>
+    requires { Gathered words.now claims.old }
     ensures value { result ≡ unless (table_fault words.now table) tt }
-    ensures known { Known words.now known.new }
+    ensures gathered { result ≡ Ok tt → Gathered words.now claims.new }
+    ensures kernel { result ≡ Ok tt → Shows claims.new.kernel (λ f. marked claims.old.kernel f || table == f) }
 {
-    if known.has(table) {
+    if claims.kernel.has(table) {
         return Ok(());
     }
-    check_table(words, table)?;
-    known.mark(table);
+    check_table(words, table, &mut claims.named)?;
+    claims.kernel.mark(table);
     Ok(())
 }
 
 #[tactic(auto, unfolding(crate::specs::Tables::entry_fault))]
-fn check_entry(words: &[u32], root: u32, k: u32, known: &mut Marks) -> Result<(), Fault>
-    requires { Known words.now known.old }
+fn check_entry(words: &[u32], root: u32, k: u32, claims: &mut Claims) -> Result<(), Fault>
+    requires { Gathered words.now claims.old }
     ensures value { result ≡ unless (entry_fault_at words.now root k) tt }
-    ensures known { Known words.now known.new }
+    ensures gathered { result ≡ Ok tt → Gathered words.now claims.new }
+    ensures kernel { result ≡ Ok tt → Shows claims.new.kernel (λ f. marked claims.old.kernel f || points words.now root f k) }
 {
     let entry = Entry(read(words, root, k));
     if !entry.is_valid() {
@@ -63,23 +81,26 @@ fn check_entry(words: &[u32], root: u32, k: u32, known: &mut Marks) -> Result<()
     if !entry.is_pointer() {
         return Err(Fault::Broken);
     }
-    check_unless_known(words, entry.frame(), known)
+    check_unless_known(words, entry.frame(), claims)
 }
 
-// A loop and no chain, as for the marks: `known` grows from entry to entry.
-fn check_entries(words: &[u32], root: u32) -> Result<(), Fault>
-    ensures { result ≡ unless (first (entry_fault_at words.now root) 1024) tt }
+// The marks of the tables grow from entry to entry, and the root itself comes last.
+fn check_entries(words: &[u32], root: u32) -> Result<Claims, Fault>
+    ensures value { cleared result ≡ unless (first (entry_fault_at words.now root) 1024) tt }
+    ensures claims { IfOk result (Claimed words.now root) }
 {
-    let mut known = Marks::NONE;
+    let mut claims = Claims::NONE;
     for k in 0..ENTRIES {
-        check_entry(words, root, k, &mut known)?;
+        check_entry(words, root, k, &mut claims)?;
     }
-    Ok(())
+    claims.kernel.mark(root);
+    Ok(claims)
 }
 
 #[tactic(auto, unfolding(crate::specs::Tables::root_fault))]
-fn check_tables_under(words: &[u32], root: u32) -> Result<(), Fault>
-    ensures { result ≡ unless (root_fault words.now root) tt }
+fn check_tables_under(words: &[u32], root: u32) -> Result<Claims, Fault>
+    ensures value { cleared result ≡ unless (root_fault words.now root) tt }
+    ensures claims { IfOk result (Claimed words.now root) }
 {
     if !is_lent(words, root) {
         return Err(Fault::NotLent);
@@ -87,17 +108,12 @@ fn check_tables_under(words: &[u32], root: u32) -> Result<(), Fault>
     check_entries(words, root)
 }
 
-fn check_tables_of(words: &[u32], plan: &Plan, k: u8) -> Result<(), Refusal>
-    ensures { result ≡ unless (table_refusal words.now plan.now k) tt }
+// What a partition claims, where its page tables are well formed.
+pub(crate) fn check_tables_of(words: &[u32], plan: &Plan, k: u8) -> Result<Claims, Refusal>
+    ensures value { cleared result ≡ unless (table_refusal words.now plan.now k) tt }
+    ensures claims { IfOk result (Claimed words.now (root plan.now k)) }
 {
     check_tables_under(words, root(plan, k)).map_err(|fault| fault.refusal(Refusal::TableMalformed(
         k,
     )))
-}
-
-// Whether the page tables of every partition are well formed.
-pub(crate) fn check_tables(words: &[u32], plan: &Plan) -> Result<(), Refusal>
-    ensures { result ≡ unless (first (table_refusal words.now plan.now) plan.now.counts.partitions) tt }
-{
-    (0..plan.counts.partitions).try_for_each(|k| check_tables_of(words, plan, k))
 }

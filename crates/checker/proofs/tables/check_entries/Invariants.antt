@@ -1,7 +1,11 @@
 use Rattle.std.proofs.Common.{◌≡◌, None}
-use Rattle.words.specs.First.{first}
-use Rattle.checker.specs.Tables.{Known, entry_fault_at}
+use Rattle.words.specs.First.{any, first}
+use Rattle.checker.specs.Marks.{Shows, points}
+use Rattle.checker.specs.Tables.{Gathered, entry_fault_at}
 use Rattle.checker.proofs.tables.check_entries.Given as goal
 
 abbrev pub invariant-loop-k : goal.invariant-loop-k
-invariant-loop-k l = (first (entry_fault_at l.words l.root) l.k ≡ None) × Known l.words l.known
+invariant-loop-k l =
+    (first (entry_fault_at l.words l.root) l.k ≡ None)
+    × Gathered l.words l.claims
+    × Shows l.claims.kernel (λ f. any (points l.words l.root f) l.k)

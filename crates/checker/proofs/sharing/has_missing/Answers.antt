@@ -1,7 +1,0 @@
-use Rattle.std.proofs.Common.{refl, rules}
-use Rattle.words.proofs.Chains.{any_over_range}
-use Rattle.checker.specs.Sharing.{missing_mark}
-use Rattle.checker.proofs.sharing.has_missing.Goals as goal
-
-pub returns : goal.returns
-returns c = any_over_range (missing_mark c.args.words.now c.args.named.now) 256 refl c.any.ensures.ran (λ f b q z. search rules)

@@ -1,7 +1,0 @@
-use Rattle.std.proofs.Common.{refl, rules}
-use Rattle.words.proofs.Chains.{first_over_range}
-use Rattle.checker.specs.Tables.{table_refusal}
-use Rattle.checker.proofs.tables.check_tables.Goals as goal
-
-pub returns : goal.returns
-returns c = first_over_range (table_refusal c.args.words.now c.args.plan.now) c.args.plan.now.counts.partitions refl c.try_for_each.ensures.ran (λ k v q z. search rules)

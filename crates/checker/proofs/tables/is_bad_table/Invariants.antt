@@ -1,0 +1,10 @@
+use Rattle.std.proofs.Common.{◌≡◌, false, ◌||◌}
+use Rattle.words.specs.First.{any}
+use Rattle.checker.specs.Marks.{Shows, marked, named_entry}
+use Rattle.checker.specs.Tables.{bad_leaf_at}
+use Rattle.checker.proofs.tables.is_bad_table.Given as goal
+
+abbrev pub invariant-loop-k : goal.invariant-loop-k
+invariant-loop-k l =
+    (any (bad_leaf_at l.words l.table) l.k ≡ false)
+    × Shows l.named (λ f. marked l.initial.named f || any (named_entry l.words l.table f) l.k)
