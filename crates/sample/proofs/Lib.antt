@@ -3,5 +3,6 @@ pub mod Entries
 pub mod Tables
 pub mod Laid
 pub mod Verdicts
+pub mod Asked
 pub mod Refused
 pub mod Pair

@@ -1,108 +1,32 @@
 -- The sample with one rule broken, and what the checker answers.
-use Rattle.std.proofs.Common.{◌≡◌, ℕ, zero, suc, ◌<◌, Bool, true, false, List, Some, None, Err, Decides, Option, sym, refl, ap, subst, inl, inr, arith}
-use Rattle.std.proofs.lemmas.Bool.{cases_Bool, true≢false}
-use Rattle.std.specs.Option.{option_or}
-use Rattle.words.specs.First.{count, first, most, unless}
+use Rattle.std.proofs.Common.{◌≡◌, ℕ, zero, suc, ◌<◌, true, false, List, Some, None, Err, sym, refl, ap, subst, inl, inr, arith}
+use Rattle.std.proofs.lemmas.Bool.{true≢false}
+use Rattle.words.specs.First.{count, first, most}
 use Rattle.words.specs.Frames.{word}
 use Rattle.words.proofs.First.{any_here, below_none, first_more, first_none, first_stays}
 use Rattle.paging.specs.Entries.{flag}
 use Rattle.paging.specs.Mapping.{Pointer}
-use Rattle.plan.specs.declared.model.Endpoint.{Endpoint}
-use Rattle.plan.specs.declared.model.Plan.{Plan}
 use Rattle.plan.specs.declared.refusal.Refusal.{Refusal}
 use Rattle.plan.specs.declared.refusal.Refusal.TheVariants.{ChannelPage, FrameShared, FramesMissing, RootRule, TableMalformed}
 use Rattle.plan.specs.Format.{plan_of, rows}
-use Rattle.plan.specs.Rules.{budget_fault, channel, channel_fault, count_fault, slot_fault, start_fault, surplus, truncated}
+use Rattle.plan.specs.Rules.{channel}
 use Rattle.checker.specs.declared.fault.Fault.TheVariants.{Broken}
-use Rattle.checker.specs.Checked.{accepted, checked, first_refusal}
+use Rattle.checker.specs.Checked.{checked}
 use Rattle.checker.specs.Faults.{refused_by}
-use Rattle.checker.specs.Lawful.{AllLent, Apart, Formed, Leads, PagesFit, PagesUnread, PageUnread, RootFits, Usable, root}
-use Rattle.checker.specs.Pages.{behind, end_frame, ends_fault, ends_refusal}
-use Rattle.checker.specs.Roots.{root_kept, root_refusal}
-use Rattle.checker.specs.Sharing.{apart_kept, lent_kept, lent_refusal, share_refusal}
+use Rattle.checker.specs.Lawful.{AllLent, Apart, PagesFit, PagesUnread, PageUnread, Usable}
+use Rattle.checker.specs.Pages.{ends_refusal}
+use Rattle.checker.specs.Roots.{root_refusal}
+use Rattle.checker.specs.Sharing.{share_refusal}
 use Rattle.checker.specs.Tables.{bad_leaf_at, bad_table, entry_fault, entry_fault_at, root_fault, table_fault, table_refusal}
-use Rattle.checker.proofs.Conflicts.{apart_decides, lent_decides}
-use Rattle.checker.proofs.Ended.{leads_looked, usable_end}
-use Rattle.checker.proofs.Forms.{formed_none, lent_tells}
-use Rattle.checker.proofs.Joined.{fit_none, unread_unlent}
+use Rattle.checker.proofs.Forms.{lent_tells}
+use Rattle.checker.proofs.Joined.{unread_unlent}
 use Rattle.checker.proofs.Leading.{named_leaf}
-use Rattle.checker.proofs.Staged.{root_decides}
 use Rattle.sample.specs.Memory.{Layout, memory, two}
 use Rattle.sample.specs.Verdicts.{Refuses, crowded, here, one_root, past, shared, short, tableless, turned}
+use Rattle.sample.proofs.Asked.{apart_none, conflict_some, faults, missing_some, on_frames, pages_none, receiver_some, refused, root_none, root_some, roots_none, table_none, tables_none, written_end}
 use Rattle.sample.proofs.Entries.{pointer}
 use Rattle.sample.proofs.Laid.{Tabled, formed, formed_0, held_0, leads_first_16, leads_first_17, leads_second_17, lent_at, long, named_0, names_2, names_code, pages, roots, there, word_at}
 use Rattle.sample.proofs.Verdicts.{Spread, differ, none_shared}
-
-refuted : {P : Type 0} (t : Bool) → Decides t P → (P → ⊥) → t ≡ false
-refuted t d h = elim (cases_Bool t) [ inl e ↦ absurd (h (d.0 e)) | inr e ↦ e ]
-
--- of the rules on frames, the first that refuses; in between come rules that a plan with its own rules kept passes
-on_frames : (five six seven eight eleven : Option Refusal) → Option Refusal
-on_frames five six seven eight eleven = option_or five (option_or six (option_or seven (option_or eight eleven)))
-
-decided : {X : Type 0} (five six seven eight eleven : Option Refusal) (e : Refusal) (x : X) → on_frames five six seven eight eleven ≡ Some e →
-    unless (option_or five (option_or six (option_or seven (option_or eight (option_or None (option_or None (option_or eleven None))))))) x ≡ Err e
-unfolding on_frames
-decided (Some d) b c f g e x h = cc
-decided None (Some d) c f g e x h = cc
-decided None None (Some d) f g e x h = cc
-decided None None None (Some d) g e x h = cc
-decided None None None None (Some d) e x h = cc
-decided None None None None None e x h = absurd (let z : ◌≡◌ {A = ℕ} 0 1 = cc in omega arith)
-
-module _ (bytes ws : List ℕ) where
-  faults : Option Refusal
-  faults =
-      let p = plan_of bytes in
-      on_frames (first (ends_refusal ws p) p.counts.channels) (first (root_refusal ws p) p.counts.partitions) (first (table_refusal ws p) p.counts.partitions)
-      (first (share_refusal ws p) p.counts.partitions) (lent_refusal ws p)
-
-  refused : truncated bytes (plan_of bytes) ≡ None → first (count_fault (plan_of bytes).counts) 3 ≡ None → first (slot_fault (plan_of bytes)) (plan_of bytes).counts.slots ≡ None →
-      first (channel_fault (plan_of bytes)) (plan_of bytes).counts.channels ≡ None → first (start_fault (plan_of bytes)) (plan_of bytes).counts.partitions ≡ None →
-      budget_fault (plan_of bytes) ≡ None → surplus bytes (plan_of bytes) ≡ None → (e : Refusal) → faults ≡ Some e → checked bytes ws ≡ Err e
-  unfolding checked first_refusal faults
-  refused t c s h st b su e f =
-      let p = plan_of bytes in
-      rw (t, c, s, h, st, b, su) (decided (first (ends_refusal ws p) p.counts.channels) (first (root_refusal ws p) p.counts.partitions) (first (table_refusal ws p) p.counts.partitions)
-      (first (share_refusal ws p) p.counts.partitions) (lent_refusal ws p) e (accepted ws p) f)
-
-  pages_none : ((k : ℕ) → k < (plan_of bytes).counts.channels → PagesFit ws (plan_of bytes) k) → first (ends_refusal ws (plan_of bytes)) (plan_of bytes).counts.channels ≡ None
-  pages_none h = below_none (ends_refusal ws (plan_of bytes)) (plan_of bytes).counts.channels (λ k l. rw (fit_none ws (plan_of bytes) k (h k l)) refl)
-
-  root_none : (k : ℕ) → RootFits ws (plan_of bytes) k → root_refusal ws (plan_of bytes) k ≡ None
-  root_none k h = rw ((root_decides bytes ws (plan_of bytes) k).1 h) refl
-
-  root_some : (k : ℕ) → (RootFits ws (plan_of bytes) k → ⊥) → root_refusal ws (plan_of bytes) k ≡ Some (RootRule k)
-  root_some k h = rw (refuted (root_kept ws (plan_of bytes) k) (root_decides bytes ws (plan_of bytes) k) h) refl
-
-  roots_none : ((k : ℕ) → k < (plan_of bytes).counts.partitions → RootFits ws (plan_of bytes) k) → first (root_refusal ws (plan_of bytes)) (plan_of bytes).counts.partitions ≡ None
-  roots_none h = below_none (root_refusal ws (plan_of bytes)) (plan_of bytes).counts.partitions (λ k l. root_none k (h k l))
-
-  table_none : (k : ℕ) → Formed ws (root (plan_of bytes) k) → table_refusal ws (plan_of bytes) k ≡ None
-  table_none k h = rw (formed_none ws (root (plan_of bytes) k) h) refl
-
-  tables_none : ((k : ℕ) → k < (plan_of bytes).counts.partitions → Formed ws (root (plan_of bytes) k)) → first (table_refusal ws (plan_of bytes)) (plan_of bytes).counts.partitions ≡ None
-  tables_none h = below_none (table_refusal ws (plan_of bytes)) (plan_of bytes).counts.partitions (λ k l. table_none k (h k l))
-
-  module _ (ok : (k : ℕ) → k < (plan_of bytes).counts.partitions → Formed ws (root (plan_of bytes) k)) where
-    apart_none : (k : ℕ) → k < (plan_of bytes).counts.partitions → Apart ws (plan_of bytes) k → share_refusal ws (plan_of bytes) k ≡ None
-    apart_none k l h = rw ((apart_decides ws (plan_of bytes) k (λ q b. ok q (omega arith))).1 h) refl
-
-    conflict_some : (k : ℕ) → k < (plan_of bytes).counts.partitions → (Apart ws (plan_of bytes) k → ⊥) → share_refusal ws (plan_of bytes) k ≡ Some (FrameShared k)
-    conflict_some k l h = rw (refuted (apart_kept ws (plan_of bytes) k) (apart_decides ws (plan_of bytes) k (λ q b. ok q (omega arith))) h) refl
-
-    missing_some : (AllLent ws (plan_of bytes) → ⊥) → lent_refusal ws (plan_of bytes) ≡ Some FramesMissing
-    missing_some h = rw (refuted (lent_kept ws (plan_of bytes)) (lent_decides ws (plan_of bytes) ok) h) refl
-
-module _ (ws : List ℕ) (p : Plan) where
-  -- a page that may be written receives on nothing
-  written_end : (end : Endpoint) (f : ℕ) (x : Bool) → Leads ws (root p end.partition) end.page (record { frame = f; readable = true; writable = true; executable = x }) → end_frame ws p end true ≡ Err Broken
-  unfolding end_frame
-  written_end end f x h = rw (leads_looked ws (root p end.partition) end.page _ h) refl
-
-  receiver_some : (k f : ℕ) → Usable ws p (channel p k).sender false f → end_frame ws p (channel p k).receiver true ≡ Err Broken → ends_refusal ws p k ≡ Some (ChannelPage k)
-  unfolding ends_fault behind
-  receiver_some k f u e = rw (usable_end ws p (channel p k).sender false f u, e) refl
 
 here_tabled : Tabled here
 here_tabled = record { enough = omega arith; table = (omega arith, (λ e. omega arith), omega arith); below = omega arith; mailbox = omega arith }

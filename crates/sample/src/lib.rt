@@ -1,4 +1,4 @@
-// One plan with its memory: accepted wherever its second partition keeps its frames, and refused where it shares one with the first.
+// One plan with its memory: accepted wherever its second partition keeps its frames, and refused, by its rule, where one number is wrong.
 #![tactic(auto)]
 
 ghost use Rattle.sample.specs.Verdicts.{Accepts, Agrees, Differs, Examples, Refuses};
