@@ -6,12 +6,11 @@ ghost use Rattle.paging.specs.declared.access.Access.TheVariants.{Fetch};
 ghost use Rattle.tables.specs.Tlb.{found, hit};
 ghost use Rattle.hart.specs.Core.{faulted, later, looked_up, step_of, with_ran};
 
-use crate::context::{Context, State};
+use crate::context::State;
 use crate::step::Core;
 use isa::decoder::Decoder;
 use paging::access::Access;
 use paging::translate::PAGE_BYTES;
-use tables::Tables;
 use tables::tlb::Lookup;
 use words::costs::{INSTRUCTION, WALK};
 
@@ -39,19 +38,10 @@ pub struct Stepper {
 }
 
 impl Stepper {
-    // The parts of a core and not the core: with it a slot takes a copy of the tables more.
-    pub fn new(context: Context, tables: &Tables, root: u32, clock: u64) -> Self
-        ensures { result.core ≡ record { context = context; tables = tables.now; root = root; clock = clock } }
+    pub fn new(core: Core) -> Self
+        ensures { result.core ≡ core }
     {
-        Stepper {
-            core: Core {
-                context,
-                tables: *tables,
-                root,
-                clock,
-            },
-            window: None,
-        }
+        Stepper { core, window: None }
     }
 
     // One instruction, to the cycle as `Core::step` runs it.

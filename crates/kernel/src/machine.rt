@@ -60,8 +60,12 @@ impl Machine {
         if who >= MOST_PARTITIONS || self.turn == u32::MAX || self.clock >= LATEST {
             return None;
         }
-        let root = u32::from(accepted.plan.partition(who).root);
-        let mut stepper = Stepper::new(self.contexts[who], &self.tables, root, self.clock);
+        let mut stepper = Stepper::new(Core {
+            context: self.contexts[who],
+            tables: self.tables,
+            root: u32::from(accepted.plan.partition(who).root),
+            clock: self.clock,
+        });
         let instructions = run_until(&mut stepper, words, slot.length, decoder);
         let core = &stepper.core;
         self.contexts[who] = core.context;

@@ -3,11 +3,10 @@
 
 use console::arguments::{argument, arguments, at_most};
 use console::problem::Program;
-use hart::context::Context;
+use hart::step::Core;
 use hart::stepper::Stepper;
 use isa::decoder::Decoder;
 use rv32ui::memory::{CODE, CODE_FRAME, MEMORY_WORDS, lay_out, put};
-use tables::Tables;
 
 const PROGRAM: Program = Program {
     name: "speed",
@@ -29,7 +28,7 @@ const LOOP: [u32; 9] = [
 
 // The clock after so many instructions.
 fn run(words: &mut [u32], count: u64) -> u64 {
-    let mut stepper = Stepper::new(Context::new(CODE), &Tables::new(), 0, 0);
+    let mut stepper = Stepper::new(Core::new(0, CODE));
     let mut decoder = Decoder::new();
     for _ in 0..count {
         stepper.step(words, &mut decoder);

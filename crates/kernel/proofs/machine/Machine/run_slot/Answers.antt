@@ -17,7 +17,7 @@ returns c =
     let x = inside core c.run_until-instructions.new.words c.run_until-instructions.result in
     let read : c.index-self-who.result ≡ context_of m slot.partition = search (rules, get_or_read) in
     let goes = can a.plan m slot c.slot_of-slot.ensures (omega arith) (omega arith) (omega arith) in
-    let end = same_end a.plan m ws slot c.partition.result c.from-root.result (get_or m.contexts slot.partition c.index-self-who.result) c.slot_of-slot.ensures c.partition.ensures c.from-root.ensures (sym c.index-self-who.is ∙ read) in
+    let end = same_end a.plan m ws slot c.partition.result c.from.result (get_or m.contexts slot.partition c.index-self-who.result) c.slot_of-slot.ensures c.partition.ensures c.from.ensures (sym c.index-self-who.is ∙ read) in
     let ends : x ≡ ended a.plan (system m ws) =
     c.run_until-instructions.ensures.ran ∙ ap (λ core. slot_on core ws slot.length) c.new-stepper.ensures ∙ end in
     record {
