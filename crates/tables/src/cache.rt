@@ -68,16 +68,12 @@ impl Cache {
         }
     }
 
-    // How many lines are dirty. A sum, since a switch by `filter` and `count` takes longer by a branch for each line.
-    #[tactic(auto, unfolding(words::specs::First::count))]
+    // How many lines are dirty.
+    #[tactic(auto, using(crate::proofs::Sums::dirty_counted))]
     pub fn dirty_lines(&self) -> u32
         ensures value { result ≡ dirty_count self.now }
         ensures most { result ≤ cache_lines }
     {
-        let mut dirty = 0;
-        for line in &self.lines {
-            dirty += u32::from(is_dirty(*line));
-        }
-        dirty
+        self.lines.iter().filter(|line| is_dirty(**line)).count() as u32
     }
 }
