@@ -1,5 +1,5 @@
 -- A TLB that answers what a walk would.
-use Rattle.std.specs.Prelude.{◌≡◌, ℕ, ◌/◌, ◌%◌, List, Some, None, Ok, Err, Option, Result}
+use Rattle.std.specs.Prelude.{◌≡◌, ℕ, ◌/◌, List, Some, None, Ok, Err, Option, Result}
 use Rattle.std.specs.List.{AllByRecursion}
 use Rattle.paging.specs.declared.access.Access.{Access}
 use Rattle.paging.specs.declared.translate.PageFault.{PageFault}
