@@ -1,4 +1,4 @@
--- One plan, byte by byte: it is accepted, its slots begin when they should, and with one thing changed each rule refuses it.
+-- One plan, byte by byte: it is accepted, its slots begin when they should, and each rule refuses one like it, or bytes that are no plan.
 use Rattle.std.specs.Prelude.{◌≡◌, ℕ, List, [], ◌∷◌, ◌++◌, replicate, Ok, Err, slice_set}
 use Rattle.plan.specs.declared.refusal.Count.TheVariants.{Partitions}
 use Rattle.plan.specs.declared.refusal.Refusal.TheVariants.{Truncated, CountRange, SlotRule, ChannelRule, StartMisaligned, BudgetRule, Surplus}

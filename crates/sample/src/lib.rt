@@ -1,4 +1,4 @@
-// One plan with its memory: accepted wherever its second partition keeps its frames, and refused, by its rule, where one number is wrong.
+// One plan with its memory: accepted wherever its second partition keeps its frames, and refused, by its rule, where a number or two are wrong.
 #![tactic(auto)]
 
 ghost use Rattle.sample.specs.Verdicts.{Accepts, Agrees, Differs, Examples, Refuses};

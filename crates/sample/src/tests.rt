@@ -1,5 +1,5 @@
 // The checker run on the sample's plans and memories: what the theorems say, and more verdicts.
-use checker::check as judge;
+use checker::check;
 use std::alloc::{AllocError, Global};
 use std::test::Fail;
 
@@ -54,7 +54,7 @@ fn memory(heap: Global, layout: Layout, frames: usize) -> Result<Vec<u32>, Alloc
 
 // The frame that the channel's receiver has, or number and place of the refusal.
 fn verdict(plan: &[u8], words: &[u32]) -> Result<u32, (u8, usize)> {
-    match judge(plan, words) {
+    match check(plan, words) {
         Ok(accepted) => {
             let [ends, ..] = accepted.ends;
             Ok(ends.receiver)

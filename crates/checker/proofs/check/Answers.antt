@@ -1,3 +1,4 @@
+-- What is left to show of `check`.
 use Rattle.checker.proofs.Judged.{judged}
 use Rattle.checker.proofs.check.Goals as goal
 

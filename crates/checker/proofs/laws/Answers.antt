@@ -1,3 +1,4 @@
+-- What is left to show of `laws`.
 use Rattle.checker.proofs.Front.{tells_all}
 use Rattle.checker.proofs.Alike.{one_first}
 use Rattle.checker.proofs.Judged.{accepted_separate, accepted_unshared, judged}

@@ -1,3 +1,4 @@
+-- What is left to show of `laws`.
 use Rattle.sample.proofs.Pair.{agrees, differs}
 use Rattle.sample.proofs.Refused.{refuses}
 use Rattle.sample.proofs.Verdicts.{accepts, examples}

@@ -1,3 +1,4 @@
+-- What is left to show of `laws`.
 use Rattle.witness.proofs.Computed.{first_slots, other_program}
 use Rattle.witness.proofs.Paired.{pairs}
 use Rattle.witness.proofs.laws.Goals as goal

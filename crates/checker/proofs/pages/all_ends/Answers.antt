@@ -1,3 +1,4 @@
+-- What is left to show of `all_ends`.
 use Rattle.std.proofs.Common.{cond, ltb, rules}
 use Rattle.plan.specs.Format.{rows}
 use Rattle.checker.specs.Pages.{ends_or_none, no_ends}

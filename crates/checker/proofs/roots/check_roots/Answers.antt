@@ -1,3 +1,4 @@
+-- What is left to show of `check_roots`.
 use Rattle.std.proofs.Common.{refl, rules}
 use Rattle.words.proofs.Chains.{first_over_range}
 use Rattle.checker.specs.Roots.{root_refusal}

@@ -1,3 +1,4 @@
+-- What is left to show of `root_is_taken`.
 use Rattle.std.proofs.Common.{refl, rules}
 use Rattle.words.proofs.Chains.{any_over_range}
 use Rattle.checker.specs.Roots.{same_root}

@@ -1,3 +1,4 @@
+-- What the loop of `check_entries` keeps.
 use Rattle.std.proofs.Common.{◌≡◌, None}
 use Rattle.words.specs.First.{any, first}
 use Rattle.checker.specs.Marks.{Shows, points}

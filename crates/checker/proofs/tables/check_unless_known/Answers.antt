@@ -1,3 +1,4 @@
+-- What is left to show of `check_unless_known`.
 use Rattle.std.proofs.Common.{◌≡◌, None, ◌||◌, eqb, sym, ap, ◌∙◌, subst, inl, inr}
 use Rattle.std.proofs.lemmas.Bool.{eqb-true, or_cases}
 use Rattle.words.proofs.First.{unless_ok}

@@ -1,3 +1,4 @@
+-- What is left to show of `is_bad_table`.
 use Rattle.std.proofs.Common.{◌≡◌, true, false, ◌&&◌, ◌||◌, eqb, sym, subst, arith, rules}
 use Rattle.paging.specs.Entries.{frame_of, is_valid}
 use Rattle.std.proofs.lemmas.Bool.{true≢false}

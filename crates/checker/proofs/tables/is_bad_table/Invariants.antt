@@ -1,3 +1,4 @@
+-- What the loop of `is_bad_table` keeps.
 use Rattle.std.proofs.Common.{◌≡◌, false, ◌||◌}
 use Rattle.words.specs.First.{any}
 use Rattle.checker.specs.Marks.{Shows, marked, named_entry}

@@ -1,3 +1,4 @@
+-- What is left to show of `laws`.
 use Rattle.hart.proofs.Agreeing.{agreement}
 use Rattle.hart.proofs.Honesty.{keeps_honest, stays_honest}
 use Rattle.hart.proofs.Instance.{example}

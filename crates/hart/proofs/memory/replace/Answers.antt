@@ -1,3 +1,4 @@
+-- What is left to show of `replace`.
 use Rattle.std.proofs.Common.{◌≡◌, ℕ, ◌+◌, ◌*◌, ◌/◌, ◌%◌, ◌^◌, ◌<◌, ◌≤◌, refl, mod-eq_of_lt, arith, rules}
 use Rattle.std.proofs.lemmas.Nat.{mod_below, pow_pos}
 use Rattle.words.specs.Bits.{field}

@@ -1,3 +1,4 @@
+-- What is left to show of `laws`.
 use Rattle.kernel.proofs.Printed.{eight_digits}
 use Rattle.kernel.proofs.report.laws.Goals as goal
 

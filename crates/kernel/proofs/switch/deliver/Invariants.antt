@@ -1,3 +1,4 @@
+-- What the loop of `deliver` keeps.
 use Rattle.std.proofs.Common.{◌≡◌}
 use Rattle.kernel.specs.Switch.{delivered}
 use Rattle.kernel.proofs.switch.deliver.Given as goal

@@ -1,3 +1,4 @@
+-- What is left to show of `acceptance`.
 use Rattle.separation.proofs.Each.{stays_accepted}
 use Rattle.separation.proofs.promises.acceptance.Goals as goal
 

@@ -1,3 +1,4 @@
+-- What is left to show of `progress`.
 use Rattle.separation.proofs.Each.{progresses}
 use Rattle.separation.proofs.promises.progress.Goals as goal
 

@@ -1,3 +1,4 @@
+-- What is left to show of `slots`.
 use Rattle.separation.proofs.Slots.{keeps_promises}
 use Rattle.separation.proofs.promises.slots.Goals as goal
 

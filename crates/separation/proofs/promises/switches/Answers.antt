@@ -1,3 +1,4 @@
+-- What is left to show of `switches`.
 use Rattle.separation.proofs.Each.{switches_fit}
 use Rattle.separation.proofs.promises.switches.Goals as goal
 

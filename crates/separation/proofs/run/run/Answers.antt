@@ -1,3 +1,4 @@
+-- What is left to show of `run`.
 use Rattle.std.proofs.Common.{◌≡◌, refl, ap, ◌∙◌, arith}
 use Rattle.checker.specs.declared.Accepted.{Accepted}
 use Rattle.kernel.specs.Machine.{after_slot}

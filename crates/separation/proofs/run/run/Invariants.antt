@@ -1,3 +1,4 @@
+-- What the loop of `run` keeps.
 use Rattle.std.proofs.Common.{◌≡◌}
 use Rattle.kernel.specs.Machine.{after_slots}
 use Rattle.separation.specs.Calls.{in_words, last_report}

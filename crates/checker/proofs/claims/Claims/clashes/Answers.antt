@@ -1,3 +1,4 @@
+-- What is left to show of `clashes`.
 use Rattle.std.proofs.Common.{refl, rules}
 use Rattle.words.proofs.Chains.{any_over_range}
 use Rattle.checker.specs.Sharing.{clash_claims}

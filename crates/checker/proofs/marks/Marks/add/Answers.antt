@@ -1,3 +1,4 @@
+-- What is left to show of `add`.
 use Rattle.std.proofs.Common.{false, ◌||◌, arith, rules}
 use Rattle.std.proofs.lemmas.List.FromFn.{get_or-map-range_with_len}
 use Rattle.checker.specs.Marks.{marked}

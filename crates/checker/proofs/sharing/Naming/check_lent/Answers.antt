@@ -1,3 +1,4 @@
+-- What is left to show of `check_lent`.
 use Rattle.std.proofs.Common.{true, false, sym, ap, ◌∙◌}
 use Rattle.words.specs.First.{unless}
 use Rattle.checker.proofs.Shares.{missing_here}

@@ -1,3 +1,4 @@
+-- What is left to show of `check_tables`.
 use Rattle.std.proofs.Common.{sym, ap, ◌∙◌}
 use Rattle.std.proofs.lemmas.Result.{err_from_is_err_and}
 use Rattle.words.proofs.First.{checked_more, checked_stops, first_none}

@@ -1,3 +1,4 @@
+-- What the loop of `check_tables` keeps.
 use Rattle.std.proofs.Common.{◌≡◌, None}
 use Rattle.words.specs.First.{first}
 use Rattle.checker.specs.Sharing.{Joined, kernel_at, named_at, share_refusal}

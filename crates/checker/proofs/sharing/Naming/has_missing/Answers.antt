@@ -1,3 +1,4 @@
+-- What is left to show of `has_missing`.
 use Rattle.std.proofs.Common.{refl, rules}
 use Rattle.words.proofs.Chains.{any_over_range}
 use Rattle.checker.specs.Sharing.{missing_mark}

@@ -1,3 +1,4 @@
+-- What is left to show of `new`.
 use Rattle.isa.proofs.decoder.Decoder.new.Goals as goal
 
 pub returns : goal.returns

@@ -1,3 +1,4 @@
+-- What is left to show of `remember`.
 use Rattle.std.proofs.Common.{arith}
 use Rattle.isa.proofs.Recalling.{takes}
 use Rattle.isa.proofs.decoder.Decoder.remember.Goals as goal

@@ -1,3 +1,4 @@
+-- What is left to show of `load`.
 use Rattle.std.proofs.Common.{◌≡◌, ℕ, ◌<◌, get_or, cond, ltb, sym, ◌∙◌, rules}
 use Rattle.std.proofs.lemmas.Bool.{cond-true, lt-ltb}
 use Rattle.std.proofs.lemmas.List.FromFn.{fill_by_all}

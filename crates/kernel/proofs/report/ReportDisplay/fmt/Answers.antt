@@ -1,3 +1,4 @@
+-- What is left to show of `fmt`.
 use Rattle.kernel.proofs.Printed.{padded_is}
 use Rattle.kernel.proofs.report.ReportDisplay.fmt.Goals as goal
 

@@ -1,3 +1,4 @@
+-- What is left to show of `run_slot`.
 use Rattle.std.proofs.Common.{refl}
 use Rattle.kernel.specs.Machine.{after_slot, system}
 use Rattle.separation.proofs.Calling.{slot_keeps, slot_unseen, system_is}

@@ -1,3 +1,4 @@
+-- What is left to show of `start`.
 use Rattle.separation.proofs.Calling.{started}
 use Rattle.separation.proofs.face.Kernel.start.Goals as goal
 

@@ -1,3 +1,4 @@
+-- What is left to show of `find`.
 use Rattle.std.proofs.Common.{rules}
 use Rattle.tables.specs.Tlb.{filled, found}
 use Rattle.tables.proofs.Truth.{carried}
