@@ -4,3 +4,4 @@ pub mod Switch
 pub mod Machine
 pub mod Reports
 pub mod ReportText
+pub mod LineText

@@ -2,6 +2,7 @@
 #![tactic(auto)]
 
 pub mod inside;
+mod line;
 pub mod machine;
 pub mod report;
 pub mod switch;

@@ -1,7 +1,9 @@
 // What is told of a slot.
-ghost use Rattle.std.specs.Prelude.{Some};
-ghost use Rattle.kernel.specs.ReportText.{EightDigits, report_text};
+ghost use Rattle.std.specs.Prelude.{◌≡◌, ◌≤◌, Some};
+ghost use Rattle.kernel.specs.LineText.{line_text};
+ghost use Rattle.kernel.specs.ReportText.{EightDigits, outcome_text, report_text};
 
+use crate::line::Line;
 use hart::context::State;
 use std::fmt;
 
@@ -24,19 +26,40 @@ impl fmt::Display for Report {
     ghost output = { λ r. Some (report_text r) };
 
     fn fmt<W: fmt::Write>(&self, f: &mut fmt::Formatter<W>) -> fmt::Result {
+        let mut line = self.outcome();
+        line.put(" ");
+        line.put_number(u64::from(self.partition));
+        line.put(" partition ");
+        line.put_number(u64::from(self.slot));
+        line.put("slot ");
+        line.write(f)
+    }
+}
+
+impl Report {
+    fn outcome(&self) -> Line
+        ensures text { line_text result ≡ outcome_text self.now self.now.state }
+        ensures room { 57 ≤ result.start }
+    {
         match self.state {
-            State::Ready => write!(
-                f,
-                "slot {} partition {} from {} ended {} instructions {} pc {:08x}",
-                self.slot, self.partition, self.begin, self.end, self.instructions, self.pc
-            ),
-            State::Stopped { cause, pc } => write!(
-                f,
-                "slot {} partition {} stopped {} at {pc:08x}",
-                self.slot,
-                self.partition,
-                cause.number()
-            ),
+            State::Ready => {
+                let mut line = Line::ending_in(self.pc);
+                line.put(" pc ");
+                line.put_number(self.instructions);
+                line.put(" instructions ");
+                line.put_number(self.end);
+                line.put(" ended ");
+                line.put_number(self.begin);
+                line.put("from ");
+                line
+            }
+            State::Stopped { cause, pc } => {
+                let mut line = Line::ending_in(pc);
+                line.put(" at ");
+                line.put_number(u64::from(cause.number()));
+                line.put("stopped ");
+                line
+            }
         }
     }
 }

@@ -1,8 +1,11 @@
 // Examples: a slot with its switch, the edges of what can be run, and messages. tests/cases runs whole plans.
 use crate::machine::Machine;
+use crate::report::Report;
 use crate::switch::deliver;
 use checker::Accepted;
 use checker::pages::Ends;
+use hart::cause::Cause;
+use hart::context::State;
 use isa::decoder::Decoder;
 use plan::model::{Channel, Counts, Endpoint, MOST_CHANNELS, Partition, Plan, Slot};
 use std::test::Fail;
@@ -119,4 +122,33 @@ fn messages(rt: HostRuntime) {
         assert_eq!(rt; read(&words, 4, 0), if arrives { 0 } else { 5 });
         assert_eq!(rt; read(&words, 3, 1023), 9);
     }
+}
+
+// A line at its longest, and one with every digit of an address.
+#[test]
+fn the_longest_lines(rt: HostRuntime) -> Result<(), Fail> {
+    let mut report = Report {
+        slot: u32::MAX,
+        partition: u8::MAX,
+        begin: u64::MAX,
+        end: u64::MAX,
+        instructions: u64::MAX,
+        pc: 0x0123_4567,
+        state: State::Ready,
+    };
+    let ready = format!(in rt.alloc(); "{report}")?;
+    assert_eq!(rt;
+        ready.as_str(),
+        "slot 4294967295 partition 255 from 18446744073709551615 ended 18446744073709551615 instructions 18446744073709551615 pc 01234567"
+    );
+    report.state = State::Stopped {
+        cause: Cause::IllegalInstruction,
+        pc: 0x89ab_cdef,
+    };
+    let stopped = format!(in rt.alloc(); "{report}")?;
+    assert_eq!(rt;
+        stopped.as_str(),
+        "slot 4294967295 partition 255 stopped 1 at 89abcdef"
+    );
+    Ok(())
 }
