@@ -35,7 +35,7 @@ pub struct Lookup {
 }
 
 impl Lookup {
-    // A page that is known and does not permit the access. Out of line, or a hit would take five instructions more.
+    // A page that is known and does not permit the access. Out of line: in place, a hit would make both answers and choose.
     #[cold]
     #[inline(never)]
     fn fault() -> Self
