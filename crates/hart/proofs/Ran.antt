@@ -1,5 +1,5 @@
 -- What a load leaves, and a step that costs less than a walk.
-use Rattle.std.proofs.Common.{◌≡◌, ℕ, ◌+◌, ◌/◌, ◌<◌, ◌≤◌, List, Some, None, Option, sym, refl, ap, ◌∙◌, inl, inr, arith}
+use Rattle.std.proofs.Common.{◌≡◌, ℕ, ◌/◌, ◌<◌, cond, false, true, Bool, ◌≤◌, List, Some, None, Option, sym, refl, ap, ◌∙◌, inl, inr, arith}
 use Rattle.std.proofs.lemmas.Bool.{cases_Bool}
 use Rattle.words.specs.Costs.{page_walk}
 use Rattle.isa.specs.declared.register.Register.{Register}
@@ -17,7 +17,7 @@ use Rattle.hart.specs.declared.context.Context.{Context}
 use Rattle.hart.specs.declared.step.Core.{Core}
 use Rattle.hart.specs.Execution.{Doing, sets, jumps, branches, loads, stores, doing, misses_target}
 use Rattle.hart.specs.Memory.{is_aligned, load_bytes, store_bytes}
-use Rattle.hart.specs.Core.{after_lookup, decoded_ran, executed, faulted, load_found, load_ran, looked_up, run_from, store_found, store_ran, word_ran}
+use Rattle.hart.specs.Core.{Ran, after_lookup, decoded_ran, executed, faulted, load_found, load_ran, looked_up, run_from, store_found, store_ran, word_ran}
 use Rattle.hart.proofs.Agreeing.{found_or_not}
 
 -- a load changes no word
@@ -28,56 +28,49 @@ load_words x t ws root width rd address = elim (cases_Bool (is_aligned (load_byt
   | inr a ↦ simp a
 ]
 
+-- what costs at least so much and has the TLB of these tables; and what has it if it costs less than a walk
+abbrev Walked : Tables → ℕ → Ran → Type 0
+Walked t cost r = (cost ≤ r.cost) × (r.tables.tlb ≡ t.tlb)
+
+abbrev Cheap : Tables → Ran → Type 0
+Cheap t r = r.cost < page_walk → r.tables.tlb ≡ t.tlb
+
 -- what costs less than a walk walked nothing, and so left the TLB as it was
 module _ (x : Context) (t : Tables) (ws : List ℕ) (root : ℕ) where
   cheap : (address : ℕ) (access : Access) → (looked_up t ws root address access).cost < page_walk → (after_lookup t ws root address access).tlb ≡ t.tlb
   cheap address access = cheap_look t.tlb (address / 4096) access (walked ws root (address / 4096))
 
-  load_costs : (t' : Tables) (width : LoadWidth) (rd : Register) (address : ℕ) (o : Option ℕ) (cost : ℕ) →
-      (cost ≤ (load_found x t' ws width rd address o cost).cost) × ((load_found x t' ws width rd address o cost).tables.tlb ≡ t'.tlb)
+  load_costs : (t' : Tables) (width : LoadWidth) (rd : Register) (address : ℕ) (o : Option ℕ) (cost : ℕ) → Walked t' cost (load_found x t' ws width rd address o cost)
   load_costs t' width rd address None cost = (omega arith, refl)
   load_costs t' width rd address (Some frame) cost = (omega arith, refl)
 
-  store_costs : (t' : Tables) (width : StoreWidth) (address value : ℕ) (o : Option ℕ) (cost : ℕ) →
-      (cost ≤ (store_found x t' ws width address value o cost).cost) × ((store_found x t' ws width address value o cost).tables.tlb ≡ t'.tlb)
+  store_costs : (t' : Tables) (width : StoreWidth) (address value : ℕ) (o : Option ℕ) (cost : ℕ) → Walked t' cost (store_found x t' ws width address value o cost)
   store_costs t' width address value None cost = (omega arith, refl)
   store_costs t' width address value (Some frame) cost = (omega arith, refl)
 
-  cheap_load : (width : LoadWidth) (rd : Register) (address : ℕ) →
-      (load_ran x t ws root width rd address).cost < page_walk → (load_ran x t ws root width rd address).tables.tlb ≡ t.tlb
-  unfolding load_ran
-  cheap_load width rd address l = elim (cases_Bool (is_aligned (load_bytes width) address)) [
-    | inl a ↦
-        let c = load_costs (after_lookup t ws root address Load) width rd address (looked_up t ws root address Load).frame (looked_up t ws root address Load).cost in
-        let small = rw a at l in
-        rw a (c.1 ∙ cheap address Load (omega (arith, c.0, small)))
-    | inr a ↦ rw a refl
-  ]
+  -- an access whose address is aligned is what follows its look-up, and one whose address is not looks nothing up
+  cheap_access : (aligned : Bool) (address : ℕ) (access : Access) (r s : Ran) →
+      Walked (after_lookup t ws root address access) (looked_up t ws root address access).cost r → s.tables.tlb ≡ t.tlb → Cheap t (cond aligned r s)
+  cheap_access true address access r s c e l = c.1 ∙ cheap address access (omega (arith, c.0, l))
+  cheap_access false address access r s c e l = e
 
-  cheap_store : (width : StoreWidth) (address value : ℕ) →
-      (store_ran x t ws root width address value).cost < page_walk → (store_ran x t ws root width address value).tables.tlb ≡ t.tlb
-  unfolding store_ran
-  cheap_store width address value l = elim (cases_Bool (is_aligned (store_bytes width) address)) [
-    | inl a ↦
-        let c = store_costs (after_lookup t ws root address Store) width address value (looked_up t ws root address Store).frame (looked_up t ws root address Store).cost in
-        let small = rw a at l in
-        rw a (c.1 ∙ cheap address Store (omega (arith, c.0, small)))
-    | inr a ↦ rw a refl
-  ]
-
-  cheap_doing : (d : Doing) → (executed x t ws root d).cost < page_walk → (executed x t ws root d).tables.tlb ≡ t.tlb
-  unfolding executed
+  cheap_doing : (d : Doing) → Cheap t (executed x t ws root d)
+  unfolding executed load_ran store_ran
   cheap_doing (sets rd value) l = refl
   cheap_doing (jumps rd target) l = refl
   cheap_doing (branches taken target) l = elim (cases_Bool (misses_target taken target)) [ inl a ↦ rw a refl | inr a ↦ rw a refl ]
-  cheap_doing (loads width rd address) l = cheap_load width rd address l
-  cheap_doing (stores width address value) l = cheap_store width address value l
+  cheap_doing (loads width rd address) l =
+      cheap_access (is_aligned (load_bytes width) address) address Load _ _
+      (load_costs (after_lookup t ws root address Load) width rd address (looked_up t ws root address Load).frame (looked_up t ws root address Load).cost) refl l
+  cheap_doing (stores width address value) l =
+      cheap_access (is_aligned (store_bytes width) address) address Store _ _
+      (store_costs (after_lookup t ws root address Store) width address value (looked_up t ws root address Store).frame (looked_up t ws root address Store).cost) refl l
 
-  cheap_decoded : (clock : ℕ) (o : Option Instruction) → (decoded_ran x t ws root clock o).cost < page_walk → (decoded_ran x t ws root clock o).tables.tlb ≡ t.tlb
+  cheap_decoded : (clock : ℕ) (o : Option Instruction) → Cheap t (decoded_ran x t ws root clock o)
   cheap_decoded clock None l = refl
   cheap_decoded clock (Some i) l = cheap_doing (doing i x clock) l
 
-  cheap_ran : (clock w : ℕ) → (word_ran x t ws root clock w).cost < page_walk → (word_ran x t ws root clock w).tables.tlb ≡ t.tlb
+  cheap_ran : (clock w : ℕ) → Cheap t (word_ran x t ws root clock w)
   unfolding word_ran
   cheap_ran clock w = cheap_decoded clock (decoded w)
 
