@@ -10,16 +10,21 @@ mod suite;
 use accesses::run_accesses;
 use cases::run_cases;
 use console::arguments::{arguments, at_most};
-use console::problem::Program;
+use console::problem::{Problem, Program};
 use jumps::run_jumps;
 use rv32ui::operation::{OPERATIONS, Operation};
 use rv32ui::runner::outcome;
 use std::io;
+use std::process::ExitCode;
 use suite::Suite;
 
 const PROGRAM: Program = Program {
     name: "conformance",
     usage: "conformance",
+    about: "Runs the vectors of the public RISC-V test suite (rv32ui) and worked cases on the core, and prints how many there are of each.
+
+  --help     prints this
+  --version  prints the version",
 };
 
 // Runs the rows of an operation.
@@ -32,18 +37,26 @@ fn run_rows(suite: &mut Suite, operation: &Operation) -> io::Result<()> {
     suite.count(name, operation.rows.len())
 }
 
-fn main(rt: HostRuntime) -> anyhow::Result<()> {
-    let words = arguments(&rt)?;
-    if PROGRAM.introduces(&rt, &words)? {
+fn main(rt: HostRuntime) -> ExitCode {
+    PROGRAM.exit_code(&rt, run(&rt))
+}
+
+fn run(rt: &HostRuntime) -> Result<(), Problem> {
+    let words = arguments(rt)?;
+    if PROGRAM.introduces(rt, &words)? {
         return Ok(());
     }
     at_most(&words, 0)?;
-    let mut suite = Suite::new(&rt);
+    let mut suite = Suite::new(rt);
     for operation in &OPERATIONS {
         run_rows(&mut suite, operation)?;
     }
     run_accesses(&mut suite)?;
     run_jumps(&mut suite)?;
     run_cases(&mut suite)?;
-    suite.close()
+    if suite.close()? {
+        Ok(())
+    } else {
+        Err(Problem::Failed("vectors failed"))
+    }
 }

@@ -1,8 +1,10 @@
 -- The words of a command line.
-use Rattle.std.specs.Prelude.{◌≡◌, ℕ, ◌<◌, ◌⊎◌, Bool, List, length, string_bytes, codes, Decides, String, HoldsAt}
+use Rattle.std.specs.Prelude.{◌≡◌, ℕ, ◌<◌, ◌≤◌, ◌⊎◌, Bool, true, false, eqb, List, length, string_bytes, codes, Decides, String, HoldsAt, Result, Ok, Err}
+use Rattle.std.specs.Borrow.{Bor}
+use Rattle.std.specs.List.{starts_with}
 use Rattle.std.specs.declared.alloc.Global.{Global}
 use Rattle.console.specs.declared.problem.Problem.{Problem}
-use Rattle.console.specs.declared.problem.Problem.TheVariants.{SurplusArgument, NoMemory}
+use Rattle.console.specs.declared.problem.Problem.TheVariants.{MissingArgument, SurplusArgument, UnexpectedOption, NotNumber, NoMemory}
 
 -- the word at a place has these bytes
 abbrev pub IsWordAt : List (String Global) → ℕ → List ℕ → Type 0
@@ -11,6 +13,28 @@ IsWordAt words at bytes = (at < length words) × HoldsAt (λ word. string_bytes 
 -- whether the first word asks the program to tell of itself
 abbrev pub AsksOfItself : List (String Global) → Bool → Type 0
 AsksOfItself words r = Decides r (IsWordAt words 0 (codes "--help") ⊎ IsWordAt words 0 (codes "--version"))
+
+-- a word is an option if it begins with a hyphen
+abbrev pub is_option : List ℕ → Bool
+is_option word = starts_with eqb word (codes "-")
+
+-- the word at a place is an option
+abbrev pub IsOptionAt : List (String Global) → ℕ → Type 0
+IsOptionAt words at = (at < length words) × HoldsAt (λ word. is_option (string_bytes word) ≡ true) words at
+
+-- the word at a place if it is there and no option; else the problem tells which of the two it is, or that no memory is left to tell of the option
+abbrev pub NamesFile : List (String Global) → ℕ → List ℕ → Result (Bor (List ℕ)) Problem → Type 0
+NamesFile words at name (Ok text) = IsWordAt words at text.now × (is_option text.now ≡ false)
+NamesFile words at name (Err (MissingArgument missing)) = (length words ≤ at) × (missing.now ≡ name)
+NamesFile words at name (Err (UnexpectedOption text)) = IsWordAt words at (string_bytes text) × (is_option (string_bytes text) ≡ true)
+NamesFile words at name (Err (NoMemory e)) = IsOptionAt words at
+NamesFile words at name (Err _) = ⊥
+
+-- it tells that this word is no number from 0 to the most, or that no memory is left to tell
+abbrev pub IsNoNumber : List ℕ → ℕ → List ℕ → Problem → Type 0
+IsNoNumber name most word (NotNumber n m text) = (n.now ≡ name) × (m ≡ most) × (string_bytes text ≡ word)
+IsNoNumber name most word (NoMemory e) = Unit {0}
+IsNoNumber name most word _ = ⊥
 
 -- it tells of the word at this place, or that no memory is left to tell
 abbrev pub IsSurplus : List (String Global) → ℕ → Problem → Type 0

@@ -1,7 +1,7 @@
 // The words of the command line. They are asked by their place and not taken from an iterator, which would be no plainer: the
 // first is looked at before it is known what it is, and the last only if it is an option.
 ghost use Rattle.std.specs.Prelude.{◌≡◌, is_ok, IfOk, IfErr, IsOkUnless, length, string_bytes, Decides, nat_le, nat_lt, HoldsAt};
-ghost use Rattle.console.specs.Words.{IsSurplus, IsWordAt};
+ghost use Rattle.console.specs.Words.{IsNoNumber, IsSurplus, IsWordAt, NamesFile, is_option};
 
 use crate::problem::Problem;
 use std::env;
@@ -22,6 +22,24 @@ pub fn argument<'a>(words: &'a [String], at: usize, name: &'static str) -> Resul
     word.ok_or(Problem::MissingArgument(name))
 }
 
+// Whether a word is an option: it begins with a hyphen.
+pub fn is_option(word: &str) -> bool
+    ensures { result ≡ is_option word.now }
+{
+    word.as_bytes().starts_with(b"-")
+}
+
+// The file's name at a place, where no option stands; a file whose name begins with a hyphen is called ./-name.
+pub fn file_name<'a>(words: &'a [String], at: usize, name: &'static str) -> Result<&'a str, Problem>
+    ensures { NamesFile words.now at name.now result }
+{
+    let word = words.get(at).ok_or(Problem::MissingArgument(name))?;
+    if is_option(word) {
+        return Err(Problem::UnexpectedOption(word.clone().map_err(Problem::NoMemory)?));
+    }
+    Ok(word)
+}
+
 // Refuses the first word past so many. By a match, since the word is copied, and a copy may fail.
 pub fn at_most(words: &[String], count: usize) -> Result<(), Problem>
     ensures verdict { is_ok result ≡ nat_le (length words.now) count }
@@ -30,6 +48,16 @@ pub fn at_most(words: &[String], count: usize) -> Result<(), Problem>
     match words.get(count) {
         Some(word) => Err(Problem::SurplusArgument(word.clone().map_err(Problem::NoMemory)?)),
         None => Ok(()),
+    }
+}
+
+// Tells that a word is no number from 0 to the most.
+pub fn not_number(rt: &HostRuntime, name: &'static str, most: u64, word: &str) -> Problem
+    ensures { IsNoNumber name.now most word.now result }
+{
+    match String::from_str(rt.alloc(), word) {
+        Ok(word) => Problem::NotNumber(name, most, word),
+        Err(error) => Problem::NoMemory(error),
     }
 }
 

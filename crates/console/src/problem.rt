@@ -12,11 +12,12 @@ use thiserror::Error;
 
 const VERSION: &str = "0.1.0";
 
-// The name of a program and how it is called.
+// The name of a program, how it is called, and what is told of it and its arguments.
 #[derive(Clone, Copy)]
 pub struct Program {
     pub name: &'static str,
     pub usage: &'static str,
+    pub about: &'static str,
 }
 
 // Words of the command line are shown quoted and escaped, so that a line break in one makes no second line.
@@ -29,8 +30,10 @@ pub enum Problem {
     MissingArgument(&'static str),
     #[error("surplus argument {0:?}")]
     SurplusArgument(String),
-    #[error("--slots takes a whole number from 0 to 4294967295, not {0:?}")]
-    NotNumber(String),
+    #[error("unexpected option {0:?}")]
+    UnexpectedOption(String),
+    #[error("{0} takes a whole number from 0 to {1}, not {2:?}")]
+    NotNumber(&'static str, u64, String),
     #[error("cannot read {0:?}: {1}")]
     Unreadable(String, io::Error),
     // the file with the number of slots has other than four bytes
@@ -42,24 +45,29 @@ pub enum Problem {
     CommandLine(io::Error),
     #[error("cannot write to the standard output: {0}")]
     Output(#[from] io::Error),
+    #[error("{0}")]
+    Failed(&'static str),
 }
 
 impl Problem {
     fn is_of_usage(&self) -> bool {
         matches!(
             self,
-            Problem::MissingArgument(_) | Problem::SurplusArgument(_) | Problem::NotNumber(_)
+            Problem::MissingArgument(_)
+                | Problem::SurplusArgument(_)
+                | Problem::UnexpectedOption(_)
+                | Problem::NotNumber(..)
         )
     }
 }
 
 impl Program {
-    // Says how the program is called, or its version, if the first word asks for it; and whether it does.
+    // Says how the program is called and what it does, or its version, if the first word asks for it; and whether it does.
     pub fn introduces(self, rt: &HostRuntime, words: &[String]) -> io::Result<bool>
         ensures { IfOk result (AsksOfItself words.now) }
     {
         if is_word(words, 0, "--help") {
-            println!(rt; "usage: {}", self.usage)?;
+            println!(rt; "usage: {}\n\n{}", self.usage, self.about)?;
             return Ok(true);
         }
         if is_word(words, 0, "--version") {

@@ -3,7 +3,7 @@ ghost use Rattle.std.specs.Prelude.{◌≡◌, length, Some, None, nat_eq, if◌
 ghost use Rattle.words.specs.Bytes.{number};
 ghost use Rattle.console.specs.Slots.{Counts, IsNamed, width};
 
-use crate::arguments::argument;
+use crate::arguments::{argument, file_name, is_word, not_number};
 use crate::files::read_up_to;
 use crate::problem::Problem;
 use words::bytes::u32_at;
@@ -21,11 +21,10 @@ impl<'a> Slots<'a> {
     pub fn named(words: &'a [String], at: usize) -> Result<Slots<'a>, Problem>
         ensures { IsNamed words.now at result }
     {
-        let first = argument(words, at, "SLOTS")?;
-        if first == "--slots" {
+        if is_word(words, at, "--slots") {
             return Ok(Slots::Number(argument(words, at + 1, "N")?));
         }
-        Ok(Slots::File(first))
+        Ok(Slots::File(file_name(words, at, "SLOTS")?))
     }
 
     // So many words name it.
@@ -44,10 +43,9 @@ impl<'a> Slots<'a> {
     {
         match self {
             Slots::File(path) => in_file(rt, path),
-            Slots::Number(text) => text.parse::<u32>().try_map_err(|_| {
-                let text = String::from_str(rt.alloc(), text).map_err(Problem::NoMemory)?;
-                Ok(Problem::NotNumber(text))
-            }),
+            Slots::Number(text) => text
+                .parse::<u32>()
+                .map_err(|_| not_number(rt, "--slots", u64::from(u32::MAX), text)),
         }
     }
 }

@@ -1,7 +1,7 @@
 // check PLAN IMAGE: prints 'accepted', or the refusal of the first rule that the plan or its image breaks.
 #![tactic(auto)]
 
-use console::arguments::{argument, arguments, at_most};
+use console::arguments::{arguments, at_most, file_name};
 use console::files::Files;
 use console::problem::{Problem, Program};
 use std::process::ExitCode;
@@ -9,6 +9,11 @@ use std::process::ExitCode;
 const PROGRAM: Program = Program {
     name: "check",
     usage: "check PLAN IMAGE",
+    about: "Tells whether a plan with its memory keeps every rule: prints 'accepted', or the first rule that is broken, by its number, and a place.
+
+  PLAN, IMAGE  the files with the plan and the memory, in the formats of docs/MACHINE.md
+  --help       prints this
+  --version    prints the version",
 };
 
 fn main(rt: HostRuntime) -> ExitCode {
@@ -20,8 +25,8 @@ fn check(rt: &HostRuntime) -> Result<(), Problem> {
     if PROGRAM.introduces(rt, &words)? {
         return Ok(());
     }
-    let plan = argument(&words, 0, "PLAN")?;
-    let image = argument(&words, 1, "IMAGE")?;
+    let plan = file_name(&words, 0, "PLAN")?;
+    let image = file_name(&words, 1, "IMAGE")?;
     at_most(&words, 2)?;
     let files = Files::read(rt, plan, image)?;
     admission::open(rt.alloc(), &files.plan, &files.image)??;

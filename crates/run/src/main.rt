@@ -1,7 +1,7 @@
 // run PLAN IMAGE SLOTS, run PLAN IMAGE --slots N: prints a line for each slot of a run, as it goes, or with --last that of the last.
 #![tactic(auto)]
 
-use console::arguments::{argument, arguments, at_most, is_word};
+use console::arguments::{arguments, at_most, file_name, is_word};
 use console::files::Files;
 use console::problem::{Problem, Program};
 use console::slots::Slots;
@@ -16,6 +16,16 @@ use std::{io, iter};
 const PROGRAM: Program = Program {
     name: "run",
     usage: "run PLAN IMAGE SLOTS [--last], or run PLAN IMAGE --slots N [--last]",
+    about: "Runs the programs of a plan, slot by slot, and prints a line for each slot.
+
+  PLAN, IMAGE  the files with the plan and the memory, in the formats of docs/MACHINE.md
+  SLOTS        a file of four bytes, low byte first, with the number of slots
+  --slots N    the number of slots itself
+  --last       prints only the last slot's line
+  --help       prints this
+  --version    prints the version
+
+A plan or an image that breaks a rule is refused, with the rule's number and a place.",
 };
 
 fn main(rt: HostRuntime) -> ExitCode {
@@ -27,8 +37,8 @@ fn run(rt: &HostRuntime) -> Result<(), Problem> {
     if PROGRAM.introduces(rt, &words)? {
         return Ok(());
     }
-    let plan = argument(&words, 0, "PLAN")?;
-    let image = argument(&words, 1, "IMAGE")?;
+    let plan = file_name(&words, 0, "PLAN")?;
+    let image = file_name(&words, 1, "IMAGE")?;
     let slots = Slots::named(&words, 2)?;
     let options = 2 + slots.width();
     let last_only = is_word(&words, options, "--last");

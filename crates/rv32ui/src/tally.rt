@@ -1,8 +1,7 @@
 // How many vectors were run, and how many of them failed.
-ghost use Rattle.std.specs.Prelude.{◌≡◌, IfOk};
+ghost use Rattle.std.specs.Prelude.{◌≡◌, ◌==◌, IfOk};
 ghost use Rattle.rv32ui.specs.Tally.{checked, counted, is_expected};
 
-use anyhow::anyhow;
 use std::io;
 
 #[derive(Default, Drop)]
@@ -32,14 +31,11 @@ impl Tally {
         expected
     }
 
-    // Prints the counts; an error where a vector failed.
-    pub fn close(&self, rt: &HostRuntime) -> anyhow::Result<()>
-        ensures { IfOk result (λ _. self.now.failed ≡ 0) }
+    // Prints the counts, and says whether no vector failed.
+    pub fn close(&self, rt: &HostRuntime) -> io::Result<bool>
+        ensures { IfOk result (λ passed. passed ≡ (self.now.failed == 0)) }
     {
         println!(rt; "vectors {}, failed {}", self.run, self.failed)?;
-        if self.failed > 0 {
-            return Err(anyhow!("vectors failed"));
-        }
-        Ok(())
+        Ok(self.failed == 0)
     }
 }

@@ -1,16 +1,22 @@
 // speed N: runs a loop for N instructions, one step after the other, and prints what it took in cycles. `time` tells how long that is.
 #![tactic(auto)]
 
-use console::arguments::{argument, arguments, at_most};
-use console::problem::Program;
+use console::arguments::{argument, arguments, at_most, not_number};
+use console::problem::{Problem, Program};
 use hart::step::Core;
 use hart::stepper::Stepper;
 use isa::decoder::Decoder;
 use rv32ui::memory::{CODE, CODE_FRAME, MEMORY_WORDS, lay_out, put};
+use std::process::ExitCode;
 
 const PROGRAM: Program = Program {
     name: "speed",
     usage: "speed N",
+    about: "Runs a loop of N instructions on one core and prints the cycles that it took there; `time` tells how long it takes here.
+
+  N          how many instructions
+  --help     prints this
+  --version  prints the version",
 };
 
 // Goes around page 17 and adds to its words.
@@ -36,13 +42,20 @@ fn run(words: &mut [u32], count: u64) -> u64 {
     stepper.core.clock
 }
 
-fn main(rt: HostRuntime) -> anyhow::Result<()> {
-    let words = arguments(&rt)?;
-    if PROGRAM.introduces(&rt, &words)? {
+fn main(rt: HostRuntime) -> ExitCode {
+    PROGRAM.exit_code(&rt, measure(&rt))
+}
+
+fn measure(rt: &HostRuntime) -> Result<(), Problem> {
+    let words = arguments(rt)?;
+    if PROGRAM.introduces(rt, &words)? {
         return Ok(());
     }
-    let count = argument(&words, 0, "N")?.parse::<u64>()?;
+    let word = argument(&words, 0, "N")?;
     at_most(&words, 1)?;
+    let count = word
+        .parse::<u64>()
+        .map_err(|_| not_number(rt, "N", u64::MAX, word))?;
     let mut memory = vec![in rt.alloc(); 0u32; MEMORY_WORDS]?;
     lay_out(&mut memory);
     put(&mut memory, CODE_FRAME, 0, &LOOP);
