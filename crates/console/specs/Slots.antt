@@ -2,7 +2,7 @@
 use Rattle.std.specs.Prelude.{◌≡◌, ◌≢◌, ℕ, ◌+◌, ◌≤◌, ◌⊎◌, ◌-◌, ◌^◌, List, length, true, false, string_bytes, codes, String, Result, Ok, Err, IfErr}
 use Rattle.std.specs.Str.Parse.{ParsesUnsigned}
 use Rattle.std.specs.declared.alloc.Global.{Global}
-use Rattle.console.specs.Words.{IsNoNumber, IsOptionAt, IsWordAt, is_option}
+use Rattle.console.specs.Words.{IsNoCount, IsNoNumber, IsOptionAt, IsWordAt, is_option}
 use Rattle.console.specs.declared.problem.Problem.{Problem}
 use Rattle.console.specs.declared.problem.Problem.TheVariants.{MissingArgument, UnexpectedOption, NoMemory}
 use Rattle.console.specs.declared.slots.Slots.{Slots}
@@ -24,7 +24,7 @@ abbrev pub width : Slots → ℕ
 width (File path) = 1
 width (Number text) = 2
 
--- the number that the text says in decimal, where it says one; of what a file holds nothing can be said
+-- the number that the text says in decimal, where it says one; of what a file holds nothing can be said, but a problem names it
 abbrev pub Counts : Slots → Result ℕ Problem → Type 0
-Counts (File path) r = Unit {0}
+Counts (File path) r = IfErr r (IsNoCount path.now)
 Counts (Number text) r = ParsesUnsigned 32 10 text.now r × IfErr r (IsNoNumber (codes "--slots") (2 ^ 32 - 1) text.now)

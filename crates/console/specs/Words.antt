@@ -4,7 +4,7 @@ use Rattle.std.specs.Borrow.{Bor}
 use Rattle.std.specs.List.{starts_with}
 use Rattle.std.specs.declared.alloc.Global.{Global}
 use Rattle.console.specs.declared.problem.Problem.{Problem}
-use Rattle.console.specs.declared.problem.Problem.TheVariants.{MissingArgument, SurplusArgument, UnexpectedOption, NotNumber, NoMemory}
+use Rattle.console.specs.declared.problem.Problem.TheVariants.{MissingArgument, SurplusArgument, UnexpectedOption, NotNumber, Unreadable, SlotsLength, NoMemory}
 
 -- the word at a place has these bytes
 abbrev pub IsWordAt : List (String Global) → ℕ → List ℕ → Type 0
@@ -41,3 +41,14 @@ abbrev pub IsSurplus : List (String Global) → ℕ → Problem → Type 0
 IsSurplus words at (SurplusArgument text) = HoldsAt (λ word. string_bytes word ≡ string_bytes text) words at
 IsSurplus words at (NoMemory e) = Unit {0}
 IsSurplus words at _ = ⊥
+
+-- it tells that the file of this name cannot be read, or that no memory is left to tell
+abbrev pub IsUnreadable : List ℕ → Problem → Type 0
+IsUnreadable path (Unreadable name e) = string_bytes name ≡ path
+IsUnreadable path (NoMemory e) = Unit {0}
+IsUnreadable path _ = ⊥
+
+-- the same, or that the file of this name has other than four bytes
+abbrev pub IsNoCount : List ℕ → Problem → Type 0
+IsNoCount path (SlotsLength name) = string_bytes name ≡ path
+IsNoCount path problem = IsUnreadable path problem

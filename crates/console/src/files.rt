@@ -1,5 +1,6 @@
 // Files of a bounded size.
-ghost use Rattle.std.specs.Prelude.{◌≤◌, IfOk, vec_len};
+ghost use Rattle.std.specs.Prelude.{◌≤◌, ◌⊎◌, IfErr, IfOk, vec_len};
+ghost use Rattle.console.specs.Words.{IsUnreadable};
 ghost use Rattle.image.specs.Frames.{longest as longest_image};
 ghost use Rattle.plan.specs.Rules.{longest as longest_plan};
 
@@ -21,6 +22,7 @@ impl Files {
     pub fn read(rt: &HostRuntime, plan: &str, image: &str) -> Result<Files, Problem>
         ensures plan { IfOk result (λ files. vec_len files.plan ≤ longest_plan) }
         ensures image { IfOk result (λ files. vec_len files.image ≤ longest_image) }
+        ensures unreadable { IfErr result (λ problem. IsUnreadable plan.now problem ⊎ IsUnreadable image.now problem) }
     {
         let plan = read_up_to(rt, plan, plan::format::longest())?;
         let image = read_image(rt, image).map_err(|error| unreadable(rt, image, error))?;
@@ -30,12 +32,15 @@ impl Files {
 
 // The bytes of a file, at most so many: what lies past them is not read.
 pub fn read_up_to(rt: &HostRuntime, path: &str, limit: usize) -> Result<Vec<u8>, Problem>
-    ensures { IfOk result (λ v. vec_len v ≤ limit) }
+    ensures bounded { IfOk result (λ v. vec_len v ≤ limit) }
+    ensures unreadable { IfErr result (IsUnreadable path.now) }
 {
     read_some(rt, path, limit).map_err(|error| unreadable(rt, path, error))
 }
 
-fn unreadable(rt: &HostRuntime, path: &str, error: io::Error) -> Problem {
+fn unreadable(rt: &HostRuntime, path: &str, error: io::Error) -> Problem
+    ensures { IsUnreadable path.now result }
+{
     match String::from_str(rt.alloc(), path) {
         Ok(path) => Problem::Unreadable(path, error),
         Err(error) => Problem::NoMemory(error),

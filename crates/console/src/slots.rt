@@ -1,7 +1,8 @@
 // For how many slots a program is asked to run: a file says it, or the word after --slots.
-ghost use Rattle.std.specs.Prelude.{◌≡◌, length, Some, None, nat_eq, if◌then◌else◌};
+ghost use Rattle.std.specs.Prelude.{◌≡◌, IfErr, length, Some, None, nat_eq, if◌then◌else◌};
 ghost use Rattle.words.specs.Bytes.{number};
 ghost use Rattle.console.specs.Slots.{Counts, IsNamed, width};
+ghost use Rattle.console.specs.Words.{IsNoCount};
 
 use crate::arguments::{argument, file_name, is_word, not_number};
 use crate::files::read_up_to;
@@ -50,13 +51,21 @@ impl<'a> Slots<'a> {
     }
 }
 
-fn in_file(rt: &HostRuntime, path: &str) -> Result<u32, Problem> {
+fn in_file(rt: &HostRuntime, path: &str) -> Result<u32, Problem>
+    ensures { IfErr result (IsNoCount path.now) }
+{
     // a byte more than it may have, so that a longer file shows
     let bytes = read_up_to(rt, path, 5)?;
-    four_bytes(&bytes).try_ok_or_else(|| {
-        let path = String::from_str(rt.alloc(), path)?;
-        Ok(Problem::SlotsLength(path))
-    })
+    four_bytes(&bytes).ok_or_else(|| other_length(rt, path))
+}
+
+fn other_length(rt: &HostRuntime, path: &str) -> Problem
+    ensures { IsNoCount path.now result }
+{
+    match String::from_str(rt.alloc(), path) {
+        Ok(path) => Problem::SlotsLength(path),
+        Err(error) => Problem::NoMemory(error),
+    }
 }
 
 fn four_bytes(bytes: &[u8]) -> Option<u32>
