@@ -13,6 +13,7 @@ use Rattle.tables.specs.declared.tlb.Tlb.{Tlb}
 use Rattle.tables.specs.Cache.{AtHand, access_cost, accessed, dirty_count, empty_cache, hits, line_of, place_of, tag_of}
 use Rattle.tables.specs.History.{Costs, Resident, Stored}
 use Rattle.tables.specs.Honest.{Honest, Truthful}
+use Rattle.tables.specs.Pages.{Kept, PageUse, tlb_after}
 use Rattle.tables.specs.Predictor.{branch_cost, first_predictor, learned}
 use Rattle.tables.specs.Loops.{Branch, Taken, loop_cost}
 use Rattle.tables.specs.Rows.{Use, Whole, after, brings_in, dirty_in, drives_out, drives_out_line, makes_dirty, makes_line_dirty, row_cost, times}
@@ -97,6 +98,15 @@ pub record LookedUp (tlb : Tlb) (page : ℕ) (access : Access) (walk : Option Le
 
 abbrev pub LookUps : Type 0
 LookUps = (tlb : Tlb) (page : ℕ) (access : Access) (walk : Option Leaf) → LookedUp tlb page access walk
+
+-- which pages are known after a row of look-ups, and what the next look-up costs: the row alone tells
+pub record PagesRemembered (row : List PageUse) : Type 0 where
+  pub is_known : (page : ℕ) → Decides (is_some (known (tlb_after empty_tlb row) page)) (Kept page row)
+  pub no_walk : (u : PageUse) → Kept u.page row → (found (tlb_after empty_tlb row) u.page u.access u.walk).cost ≡ 0
+  pub a_walk : (u : PageUse) → (Kept u.page row → ⊥) → (found (tlb_after empty_tlb row) u.page u.access u.walk).cost ≡ page_walk
+
+abbrev pub RemembersPages : Type 0
+RemembersPages = (row : List PageUse) → PagesRemembered row
 
 -- an honest TLB answers what the page tables say, and stays honest as long as every walk stays the same
 pub record Honesty : Type 0 where

@@ -1,6 +1,6 @@
 // What the definitions of this crate come to, owed by this function's contract.
 ghost use Rattle.tables.specs.Example.{Example};
-ghost use Rattle.tables.specs.Laws.{AccessCosts, Charges, ComesIn, CountersStay, FrameIsTag, FramesConflict, Highest, Honesty, LookUps, LoopsPredicted, Remembers, WriteBacks};
+ghost use Rattle.tables.specs.Laws.{AccessCosts, Charges, ComesIn, CountersStay, FrameIsTag, FramesConflict, Highest, Honesty, LookUps, LoopsPredicted, Remembers, RemembersPages, WriteBacks};
 
 pub fn laws()
     ensures costs { AccessCosts }
@@ -13,6 +13,7 @@ pub fn laws()
     ensures loops { LoopsPredicted }
     ensures counters { CountersStay }
     ensures lookups { LookUps }
+    ensures pages { RemembersPages }
     ensures honesty { Honesty }
     ensures highest { Highest }
     ensures example { Example }

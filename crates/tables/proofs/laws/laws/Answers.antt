@@ -1,5 +1,6 @@
 -- What is left to show of `laws`.
 use Rattle.tables.proofs.Lines.{access_costs, comes_in, frame_is_tag, frames_conflict}
+use Rattle.tables.proofs.Pages.{remembers_pages}
 use Rattle.tables.proofs.Sums.{charges}
 use Rattle.tables.proofs.Told.{remembers, write_backs}
 use Rattle.tables.proofs.Truth.{highest_costs, honesty, look_ups}
@@ -19,6 +20,7 @@ returns c = record {
   loops = loops_predicted;
   counters = counters_stay;
   lookups = look_ups;
+  pages = remembers_pages;
   honesty = honesty;
   highest = highest_costs;
   example = worked;
