@@ -1,5 +1,5 @@
 -- What the definitions of this crate come to.
-use Rattle.std.specs.Prelude.{◌≡◌, ℕ, ◌+◌, ◌*◌, ◌/◌, ◌%◌, ◌≤◌, Bool, true, false, cond, ◌⊎◌, List, length, replicate, is_some, None, Decides, Option, ◌≢◌}
+use Rattle.std.specs.Prelude.{◌≡◌, ℕ, ◌+◌, ◌-◌, ◌*◌, ◌/◌, ◌%◌, ◌<◌, ◌≤◌, min, Bool, true, false, cond, ◌⊎◌, List, [], ◌∷◌, ◌++◌, length, replicate, is_some, None, Decides, Option, ◌≢◌, slice_index}
 use Rattle.std.specs.List.{AllByRecursion}
 use Rattle.words.specs.Costs.{highest, highest_branch, instruction, miss, misprediction, page_walk, write_back}
 use Rattle.words.specs.First.{weight}
@@ -15,7 +15,7 @@ use Rattle.tables.specs.History.{Costs, Resident, Stored}
 use Rattle.tables.specs.Honest.{Honest, Truthful}
 use Rattle.tables.specs.Pages.{Kept, PageUse, tlb_after}
 use Rattle.tables.specs.Predictor.{branch_cost, first_predictor, learned}
-use Rattle.tables.specs.Loops.{Branch, Taken, loop_cost}
+use Rattle.tables.specs.Loops.{Branch, Taken, branch_costs, loop_and_again, loop_cost, taken_at}
 use Rattle.tables.specs.Rows.{Use, Whole, after, brings_in, dirty_in, drives_out, drives_out_line, makes_dirty, makes_line_dirty, row_cost, times}
 use Rattle.tables.specs.Tlb.{empty_tlb, filled, found, known}
 
@@ -75,11 +75,33 @@ FramesConflict = (cache : Cache) (from to : Place) → Whole cache → from.offs
 -- from the first state, a branch that is taken n times in a row is mispredicted once, at the first turn;
 -- other branches may lie between, as long as each that has the same counter is taken too
 pub record Predicted (address : ℕ) : Type 0 where
-  pub alone : (n : ℕ) → loop_cost address first_predictor (replicate (n + 1) (record { address = address; taken = true })) ≡ misprediction
+  pub alone : (n : ℕ) → loop_cost address first_predictor (replicate (n + 1) (taken_at address)) ≡ misprediction
   pub among_others : (row : List Branch) → AllByRecursion (Taken address) row → loop_cost address first_predictor row ≤ misprediction
 
 abbrev pub LoopsPredicted : Type 0
 LoopsPredicted = (address : ℕ) → Predicted address
+
+-- from the first state, the branch of a loop of two turns or more is mispredicted at the first turn and at the exit,
+-- and nowhere else: when the loop is entered again, it is predicted as taken
+abbrev pub LoopsLeft : Type 0
+LoopsLeft = (address n : ℕ) → branch_costs first_predictor (loop_and_again address (n + 2)) ≡ misprediction ∷ (replicate (n + 1) 0 ++ (misprediction ∷ (0 ∷ [])))
+
+abbrev pub counter_at : Predictor → ℕ → ℕ
+counter_at predictor place = slice_index predictor.counters place
+
+-- what a branch does, said by the places of the counters: the branch at an address has the one at a quarter of it, modulo 64.
+-- That goes one up, at most to 3, if the branch is taken, and one down, at least to 0, if it is not. The counters of all other addresses stay.
+-- At 2 and above a branch is mispredicted if it is not taken, below 2 if it is taken
+pub record Counted (predictor : Predictor) (address : ℕ) : Type 0 where
+  pub up : counter_at (learned predictor address true) (address / 4 % 64) ≡ min (counter_at predictor (address / 4 % 64) + 1) 3
+  pub down : counter_at (learned predictor address false) (address / 4 % 64) ≡ counter_at predictor (address / 4 % 64) - 1
+  pub others : (other : ℕ) (taken : Bool) → (other / 4 % 64 ≢ address / 4 % 64) →
+      counter_at (learned predictor address taken) (other / 4 % 64) ≡ counter_at predictor (other / 4 % 64)
+  pub high : 2 ≤ counter_at predictor (address / 4 % 64) → (branch_cost predictor address true ≡ 0) × (branch_cost predictor address false ≡ misprediction)
+  pub low : counter_at predictor (address / 4 % 64) < 2 → (branch_cost predictor address true ≡ misprediction) × (branch_cost predictor address false ≡ 0)
+
+abbrev pub Counts : Type 0
+Counts = (predictor : Predictor) (address : ℕ) → length predictor.counters ≡ 64 → Counted predictor address
 
 -- 64 counters from 0 to 3
 pub record InRange (predictor : Predictor) : Type 0 where
