@@ -7,7 +7,7 @@ use Rattle.words.specs.Costs.{miss, write_back}
 use Rattle.tables.specs.declared.cache.Cache.{Cache}
 use Rattle.tables.specs.declared.cache.Line.{Line}
 use Rattle.tables.specs.Cache.{access_cost, empty_cache, has_tag, held, hits, is_dirty, place_of, tag_of}
-use Rattle.tables.specs.Rows.{Use, Whole, after, conflicts, dirty_in, drives_out_line, used}
+use Rattle.tables.specs.Rows.{Use, Whole, after, conflicts, dirty_in, evicts_dirty_line, used}
 use Rattle.tables.specs.History.{Accesses, Apart, Conflict, Since, Stores}
 use Rattle.tables.specs.Laws.{Remembers, WriteBacks}
 use Rattle.tables.proofs.Rows.{told}
@@ -82,8 +82,8 @@ holder (Some line) d = (line.tag, eq-eqb line.tag line.tag refl)
 
 module _ (cache : Cache) (line : ℕ) where
   -- a line that conflicts with it and is dirty is what its place holds
-  driven_out : (other : ℕ) → Conflict line other → dirty_in cache other ≡ true → (hits cache line ≡ false) × (is_dirty (held cache line) ≡ true)
-  driven_out other k d =
+  evicted : (other : ℕ) → Conflict line other → dirty_in cache other ≡ true → (hits cache line ≡ false) × (is_dirty (held cache line) ≡ true)
+  evicted other k d =
       let parts = and_parts (hits cache other) (is_dirty (held cache other)) d in
       let same : held cache other ≡ held cache line = ap (λ at. get_or cache.lines at None) (sym k.0) in (
         one_tag (held cache line) (tag_of other) (tag_of line) (ap (has_tag (tag_of other)) (sym same) ∙ parts.0) (λ t. k.1 (one_line line other k.0 (sym t))),
@@ -106,7 +106,7 @@ module _ (cache : Cache) (line : ℕ) where
       )
 
   over_dirty : (other : ℕ) → Conflict line other → dirty_in cache other ≡ true → access_cost cache line ≡ miss + write_back
-  over_dirty other k d = let out = driven_out other k d in rw (out.0, out.1) refl
+  over_dirty other k d = let out = evicted other k d in rw (out.0, out.1) refl
 
   over_clean : hits cache line ≡ false → ((other : ℕ) → Conflict line other → dirty_in cache other ≡ true → ⊥) → access_cost cache line ≡ miss
   over_clean gone none = elim (cases_Bool (is_dirty (held cache line))) [
@@ -125,7 +125,7 @@ conflicts_tell a b = Decides-and (eqb (place_of a) (place_of b)) (not (eqb a b))
 pub write_backs : WriteBacks
 write_backs cache u =
     let line = u.line in
-    let apart : (other : ℕ) → drives_out_line other cache u ≡ true → (dirty_in cache other ≡ true) × Conflict line other = λ other d.
+    let apart : (other : ℕ) → evicts_dirty_line other cache u ≡ true → (dirty_in cache other ≡ true) × Conflict line other = λ other d.
     (let p = and_parts (dirty_in cache other) (conflicts line other) d in (p.0, (conflicts_tell line other).0 p.1)) in
     record {
       some = (
@@ -135,7 +135,7 @@ write_backs cache u =
             (out.0, and_from (dirty_in cache out.0) (conflicts line out.0) out.2 ((conflicts_tell line out.0).1 out.1))),
         λ s.
             let p = apart s.0 s.1 in
-            let out = driven_out cache line s.0 p.1 p.0 in
+            let out = evicted cache line s.0 p.1 p.0 in
             and_from (not (hits cache line)) (is_dirty (held cache line)) (not_from_false (hits cache line) out.0) out.1,
       );
       only = λ a b da db.

@@ -16,7 +16,7 @@ use Rattle.tables.specs.Honest.{Honest, Truthful}
 use Rattle.tables.specs.Pages.{Kept, PageUse, tlb_after}
 use Rattle.tables.specs.Predictor.{branch_cost, first_predictor, learned}
 use Rattle.tables.specs.Loops.{Branch, Taken, branch_costs, loop_and_again, loop_cost, taken_at}
-use Rattle.tables.specs.Rows.{Use, Whole, after, brings_in, dirty_in, drives_out, drives_out_line, makes_dirty, makes_line_dirty, row_cost, times}
+use Rattle.tables.specs.Rows.{Use, Whole, after, fills, dirty_in, evicts_dirty, evicts_dirty_line, makes_dirty, makes_line_dirty, row_cost, times}
 use Rattle.tables.specs.Tlb.{empty_tlb, filled, found, known}
 
 -- an access costs nothing, a miss, or a miss and a write-back
@@ -45,32 +45,32 @@ pub record Remembered (row : List Use) : Type 0 where
 abbrev pub Remembers : Type 0
 Remembers = (row : List Use) → Remembered row
 
--- what is charged for a row: a miss for each line that is brought in, and a write-back for each time that a dirty line is driven out.
+-- what is charged for a row: a miss for each line that fills a place, and a write-back for each time that a dirty line is evicted.
 -- Each time that a line is made dirty is written back once, when the line goes, or the line is still there and dirty
 pub record Charged (row : List Use) : Type 0 where
-  pub cycles : row_cost empty_cache row ≡ miss * times brings_in empty_cache row + write_back * times drives_out empty_cache row
-  pub in_all : times drives_out empty_cache row + dirty_count (after empty_cache row) ≡ times makes_dirty empty_cache row
+  pub cycles : row_cost empty_cache row ≡ miss * times fills empty_cache row + write_back * times evicts_dirty empty_cache row
+  pub in_all : times evicts_dirty empty_cache row + dirty_count (after empty_cache row) ≡ times makes_dirty empty_cache row
   pub of_each : (line : ℕ) →
-      times (drives_out_line line) empty_cache row + weight (dirty_in (after empty_cache row) line) 1 ≡ times (makes_line_dirty line) empty_cache row
+      times (evicts_dirty_line line) empty_cache row + weight (dirty_in (after empty_cache row) line) 1 ≡ times (makes_line_dirty line) empty_cache row
 
 abbrev pub Charges : Type 0
 Charges = (row : List Use) → Charged row
 
--- a write-back is of one line: where a dirty line is driven out, there is one that is, and no other
+-- a write-back is of one line: where a dirty line is evicted, there is one that is, and no other
 pub record WrittenBack (cache : Cache) (u : Use) : Type 0 where
-  pub some : Decides (drives_out cache u) ((line : ℕ) × (drives_out_line line cache u ≡ true))
-  pub only : (a b : ℕ) → drives_out_line a cache u ≡ true → drives_out_line b cache u ≡ true → a ≡ b
+  pub some : Decides (evicts_dirty cache u) ((line : ℕ) × (evicts_dirty_line line cache u ≡ true))
+  pub only : (a b : ℕ) → evicts_dirty_line a cache u ≡ true → evicts_dirty_line b cache u ≡ true → a ≡ b
 
 abbrev pub WriteBacks : Type 0
 WriteBacks = (cache : Cache) (u : Use) → WrittenBack cache u
 
--- a store to a place of one frame, and a load from the same place of another: the load drives the stored line out, and costs nothing when repeated
-pub record DrivenOut (cache : Cache) (from to : Place) : Type 0 where
+-- a store to a place of one frame, and a load from the same place of another: the load evicts the stored line, and costs nothing when repeated
+pub record Evicted (cache : Cache) (from to : Place) : Type 0 where
   pub first : access_cost (accessed cache (line_of from) true) (line_of to) ≡ miss + write_back
   pub again : access_cost (accessed (accessed cache (line_of from) true) (line_of to) false) (line_of to) ≡ 0
 
 abbrev pub FramesConflict : Type 0
-FramesConflict = (cache : Cache) (from to : Place) → Whole cache → from.offset ≡ to.offset → (from.frame ≢ to.frame) → DrivenOut cache from to
+FramesConflict = (cache : Cache) (from to : Place) → Whole cache → from.offset ≡ to.offset → (from.frame ≢ to.frame) → Evicted cache from to
 
 -- from the first state, a branch that is taken n times in a row is mispredicted once, at the first turn;
 -- other branches may lie between, as long as each that has the same counter is taken too
@@ -86,6 +86,7 @@ LoopsPredicted = (address : ℕ) → Predicted address
 abbrev pub LoopsLeft : Type 0
 LoopsLeft = (address n : ℕ) → branch_costs first_predictor (loop_and_again address (n + 2)) ≡ misprediction ∷ (replicate (n + 1) 0 ++ (misprediction ∷ (0 ∷ [])))
 
+-- what the counter at a place stands at
 abbrev pub counter_at : Predictor → ℕ → ℕ
 counter_at predictor place = slice_index predictor.counters place
 

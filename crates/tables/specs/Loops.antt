@@ -1,4 +1,4 @@
--- Rows of branches, and what one of them costs.
+-- Rows of branches, and what they cost.
 use Rattle.std.specs.Prelude.{◌≡◌, ℕ, ◌+◌, Bool, true, false, cond, List, [], ◌∷◌, ◌++◌, replicate, ◌==◌}
 use Rattle.tables.specs.declared.predictor.Predictor.{Predictor}
 use Rattle.tables.specs.Predictor.{branch_cost, counter_of, learned}
@@ -23,6 +23,7 @@ unfoldable pub branch_costs : Predictor → List Branch → List ℕ
 branch_costs predictor [] = []
 branch_costs predictor (b ∷ row) = branch_cost predictor b.address b.taken ∷ branch_costs (learned predictor b.address b.taken) row
 
+-- the branch at an address, taken or not
 abbrev pub taken_at : ℕ → Branch
 taken_at address = record { address = address; taken = true }
 

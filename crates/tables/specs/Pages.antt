@@ -13,10 +13,11 @@ pub record PageUse : Type 0 where
   pub access : Access
   pub walk : Option Leaf
 
+-- the TLB after one look-up
 abbrev pub looked_up : Tlb → PageUse → Tlb
 looked_up tlb u = filled tlb u.page u.access u.walk
 
--- the TLB after a row
+-- and after a row of them
 unfoldable pub tlb_after : Tlb → List PageUse → Tlb
 tlb_after tlb [] = tlb
 tlb_after tlb (u ∷ row) = tlb_after (looked_up tlb u) row
@@ -29,13 +30,14 @@ Granted u = (leaf : Leaf) × (u.walk ≡ Some leaf) × (permitted leaf u.access 
 abbrev pub PagesConflict : ℕ → ℕ → Type 0
 PagesConflict a b = (a % 16 ≡ b % 16) × (a ≢ b)
 
+-- a look-up of this page that is granted
 abbrev pub GrantedTo : ℕ → PageUse → Type 0
 GrantedTo page u = (u.page ≡ page) × Granted u
 
--- a look-up that is of no such page, or not granted
+-- a look-up that leaves the page as it was: it is of no page that conflicts, or is not granted
 abbrev pub LeavesPage : ℕ → PageUse → Type 0
 LeavesPage page u = PagesConflict u.page page → Granted u → ⊥
 
--- the page was looked up and granted, and no page that conflicts with it since
+-- the page was looked up and granted, and none that conflicts with it since
 abbrev pub Kept : ℕ → List PageUse → Type 0
 Kept page = Since (GrantedTo page) (LeavesPage page)
