@@ -11,7 +11,7 @@ use Rattle.words.proofs.First.{count_change}
 use Rattle.tables.specs.declared.cache.Cache.{Cache}
 use Rattle.tables.specs.declared.cache.Line.{Line}
 use Rattle.tables.specs.Cache.{dirty_at, dirty_count, empty_cache, held, has_tag, hits, is_dirty, place_of, renewed, tag_of}
-use Rattle.tables.specs.Rows.{Use, Whole, after, brings_in, conflicts, dirty_in, drives_out, drives_out_line, makes_dirty, makes_line_dirty, row_cost, times, used}
+use Rattle.tables.specs.Rows.{Use, Whole, after, fills, conflicts, dirty_in, evicts_dirty, evicts_dirty_line, makes_dirty, makes_line_dirty, row_cost, times, used}
 use Rattle.tables.specs.Laws.{Charges}
 use Rattle.tables.proofs.Lines.{dirty_away, dirty_gone, dirty_same, held_empty, meets, whole_accessed, whole_empty}
 
@@ -36,7 +36,7 @@ sums false true false now was e = omega arith
 sums false false true now was e = omega arith
 sums false false false now was e = omega arith
 
-all_lines : (cache : Cache) (u : Use) → Whole cache → weight (drives_out cache u) 1 + dirty_count (used cache u) ≡ weight (makes_dirty cache u) 1 + dirty_count cache
+all_lines : (cache : Cache) (u : Use) → Whole cache → weight (evicts_dirty cache u) 1 + dirty_count (used cache u) ≡ weight (makes_dirty cache u) 1 + dirty_count cache
 all_lines cache u whole =
     let at = place_of u.line in
     let new : Option Line = Some (renewed cache u.line u.store) in
@@ -74,7 +74,7 @@ gone_line true other = refl
 gone_line false other = refl
 
 one_line : (line : ℕ) (cache : Cache) (u : Use) → Whole cache →
-    weight (drives_out_line line cache u) 1 + weight (dirty_in (used cache u) line) 1 ≡ weight (makes_line_dirty line cache u) 1 + weight (dirty_in cache line) 1
+    weight (evicts_dirty_line line cache u) 1 + weight (dirty_in (used cache u) line) 1 ≡ weight (makes_line_dirty line cache u) 1 + weight (dirty_in cache line) 1
 one_line line cache u whole = elim (meets u.line line) [
   | inl e ↦
       let is : eqb u.line line ≡ true = eq-eqb u.line line e in
@@ -101,7 +101,7 @@ priced true dirty = refl
 priced false true = refl
 priced false false = refl
 
-cycles : (row : List Use) (cache : Cache) → row_cost cache row ≡ miss * times brings_in cache row + write_back * times drives_out cache row
+cycles : (row : List Use) (cache : Cache) → row_cost cache row ≡ miss * times fills cache row + write_back * times evicts_dirty cache row
 unfolding row_cost times
 cycles [] cache = refl
 cycles (u ∷ row) cache = omega (arith, priced (hits cache u.line) (is_dirty (held cache u.line)), cycles row (used cache u))
@@ -113,8 +113,8 @@ none_dirty = refl
 pub charges : Charges
 charges row = record {
   cycles = cycles row empty_cache;
-  in_all = omega (arith, balanced drives_out makes_dirty dirty_count all_lines row empty_cache whole_empty, none_dirty);
+  in_all = omega (arith, balanced evicts_dirty makes_dirty dirty_count all_lines row empty_cache whole_empty, none_dirty);
   of_each = λ line.
       let none : dirty_in empty_cache line ≡ false = ap (λ o. has_tag (tag_of line) o && is_dirty o) (held_empty line) in
-      omega (arith, balanced (drives_out_line line) (makes_line_dirty line) (λ cache. weight (dirty_in cache line) 1) (one_line line) row empty_cache whole_empty, ap (λ b. weight b 1) none);
+      omega (arith, balanced (evicts_dirty_line line) (makes_line_dirty line) (λ cache. weight (dirty_in cache line) 1) (one_line line) row empty_cache whole_empty, ap (λ b. weight b 1) none);
 }

@@ -1,124 +1,75 @@
 -- What a row tells of the cache after it.
-use Rattle.std.proofs.Common.{◌≡◌, ℕ, ◌+◌, ◌*◌, Bool, true, false, cond, not, ◌&&◌, ◌||◌, eqb, ◌⊎◌, List, [], ◌∷◌, ◌++◌, get_or, Some, None, Decides, Option, sym, refl, ap, ◌∙◌, subst, inl, inr, arith}
+use Rattle.std.proofs.Common.{◌≡◌, ℕ, ◌+◌, ◌*◌, Bool, true, false, cond, not, ◌&&◌, eqb, ◌⊎◌, List, get_or, Some, None, Decides, Option, sym, refl, ap, ◌∙◌, subst, inl, inr, arith}
 use Rattle.std.proofs.lemmas.Nat.{mod_below}
-use Rattle.std.proofs.lemmas.Bool.{and_from, and_parts, both_ways, cases_Bool, cond-true, eq-eqb, eqb-true, false≢true, not_from_false, not-true, or_cases, or_left, or_right}
+use Rattle.std.proofs.lemmas.Bool.{and_from, and_parts, both_ways, cases_Bool, cond-true, eq-eqb, eqb-true, false_from_ne_true, false≢true, not_from_false, not-true, or_cases, or_left, or_right}
 use Rattle.std.proofs.lemmas.Bool.Decides.{Decides-and, Decides-eqb, Decides-not}
-use Rattle.std.specs.List.{AllByRecursion as All}
 use Rattle.words.specs.Costs.{miss, write_back}
 use Rattle.tables.specs.declared.cache.Cache.{Cache}
 use Rattle.tables.specs.declared.cache.Line.{Line}
 use Rattle.tables.specs.Cache.{access_cost, empty_cache, has_tag, held, hits, is_dirty, place_of, tag_of}
-use Rattle.tables.specs.Rows.{Use, Whole, after, conflicts, dirty_in, drives_out_line, used}
-use Rattle.tables.specs.History.{Apart, Conflict, Since}
+use Rattle.tables.specs.Rows.{Use, Whole, after, conflicts, dirty_in, evicts_dirty_line, used}
+use Rattle.tables.specs.History.{Accesses, Apart, Conflict, Since, Stores}
 use Rattle.tables.specs.Laws.{Remembers, WriteBacks}
+use Rattle.tables.proofs.Rows.{told}
 use Rattle.tables.proofs.Lines.{dirty_away, dirty_gone, dirty_same, held_empty, hit_away, hit_gone, hit_same, meets, one_line, one_tag, whole_accessed, whole_empty}
 
 -- something that is so of a line, comes about by a wanted access to it, and ends with one that conflicts
-record Follows (so : Cache → ℕ → Bool) (wanted : Use → Bool) : Type 0 where
-  same : (cache : Cache) (u : Use) → Whole cache → so (used cache u) u.line ≡ (so cache u.line || wanted u)
+record Follows (so : Cache → ℕ → Bool) (Wanted : ℕ → Use → Type 0) : Type 0 where
+  same : (cache : Cache) (u : Use) → Whole cache → Decides (so (used cache u) u.line) (Wanted u.line u ⊎ (so cache u.line ≡ true))
+  own : (line : ℕ) (u : Use) → Wanted line u → u.line ≡ line
   gone : (cache : Cache) (u : Use) (line : ℕ) → Whole cache → Conflict u.line line → so (used cache u) line ≡ false
   away : (cache : Cache) (u : Use) (line : ℕ) → (place_of line ≡ place_of u.line → ⊥) → so (used cache u) line ≡ so cache line
   empty : (line : ℕ) → so empty_cache line ≡ false
 
-module _ (so : Cache → ℕ → Bool) (wanted : Use → Bool) (follows : Follows so wanted) (line : ℕ) where
+module _ (so : Cache → ℕ → Bool) (Wanted : ℕ → Use → Type 0) (follows : Follows so Wanted) (line : ℕ) where
   -- one access
-  abbrev Renews : Use → Type 0
-  Renews u = (u.line ≡ line) × (wanted u ≡ true)
+  abbrev Holds : Cache → Use → Type 0
+  Holds cache u = Wanted line u ⊎ ((so cache line ≡ true) × Apart line u)
 
-  each : (cache : Cache) (u : Use) → Whole cache → Decides (so (used cache u) line) (Renews u ⊎ ((so cache line ≡ true) × Apart line u))
+  at_line : (cache : Cache) (u : Use) → Whole cache → u.line ≡ line → Decides (so (used cache u) line) (Wanted line u ⊎ (so cache line ≡ true))
+  at_line cache u whole e = subst (λ (l : ℕ). Decides (so (used cache u) l) (Wanted l u ⊎ (so cache l ≡ true))) e (follows.same cache u whole)
+
+  each : (cache : Cache) (u : Use) → Whole cache → Decides (so (used cache u) line) (Holds cache u)
   each cache u whole = elim (meets u.line line) [
     | inl e ↦
-        let now : so (used cache u) line ≡ (so cache line || wanted u) =
-        subst (λ (l : ℕ). so (used cache u) l ≡ (so cache l || wanted u)) e (follows.same cache u whole) in (
-          (λ h. elim (or_cases (so cache line) (wanted u) (sym now ∙ h)) [ inl was ↦ inr (was, λ k. k.1 e) | inr w ↦ inl (e, w) ]),
-          λ t. now ∙ elim t [ inl r ↦ or_right (so cache line) (wanted u) r.1 | inr p ↦ or_left (so cache line) (wanted u) p.0 ],
+        let now = at_line cache u whole e in (
+          (λ h. elim (now.0 h) [ inl w ↦ inl w | inr was ↦ inr (was, λ k. k.1 e) ]),
+          λ t. now.1 (elim t [ inl w ↦ inl w | inr p ↦ inr p.0 ]),
         )
     | inr (inl k) ↦
         let now = follows.gone cache u line whole k in (
           (λ h. absurd (both_ways (so (used cache u) line) now h)),
-          λ t. absurd (elim t [ inl r ↦ k.1 r.0 | inr p ↦ p.1 k ]),
+          λ t. absurd (elim t [ inl w ↦ k.1 (follows.own line u w) | inr p ↦ p.1 k ]),
         )
     | inr (inr away) ↦
         let now = follows.away cache u line away in (
           (λ h. inr (sym now ∙ h, λ k. away (sym k.0))),
-          λ t. elim t [ inl r ↦ absurd (away (ap place_of (sym r.0))) | inr p ↦ now ∙ p.0 ],
+          λ t. elim t [ inl w ↦ absurd (away (ap place_of (sym (follows.own line u w)))) | inr p ↦ now ∙ p.0 ],
         )
   ]
 
-  -- the row has it, or it was so before the row and nothing conflicted
-  abbrev Told : Cache → List Use → Type 0
-  Told cache row = Since wanted line row ⊎ ((so cache line ≡ true) × All (Apart line) row)
-
-  to : (row : List Use) (cache : Cache) → Whole cache → so (after cache row) line ≡ true → Told cache row
+  since : (row : List Use) → Decides (so (after empty_cache row) line) (Since (Wanted line) (Apart line) row)
   unfolding after
-  to [] cache whole h = inr (h, tt)
-  to (u ∷ row) cache whole h = elim (to row (used cache u) (whole_accessed cache u.line u.store whole) h) [
-    | inl s ↦ inl (record {
-      before = u ∷ s.before;
-      this = s.this;
-      later = s.later;
-      parts = ap (λ us. u ∷ us) s.parts;
-      to_line = s.to_line;
-      is_wanted = s.is_wanted;
-      undisturbed = s.undisturbed;
-    })
-    | inr p ↦ elim ((each cache u whole).0 p.0) [
-      | inl r ↦ inl (record { before = []; this = u; later = row; parts = refl; to_line = r.0; is_wanted = r.1; undisturbed = p.1 })
-      | inr q ↦ inr (q.0, (q.1, p.1))
-    ]
-  ]
+  since = told (Wanted line) (Apart line) Cache Whole used after (λ cache. so cache line)
+      (λ cache u. whole_accessed cache u.line u.store) (λ cache. refl) (λ cache u row. refl) each empty_cache whole_empty (follows.empty line)
 
-  -- the wanted access is the first of the row, or among the others
-  split : (u : Use) (row before : List Use) (this : Use) (later : List Use) → u ∷ row ≡ before ++ (this ∷ later) → Renews this → All (Apart line) later →
-      (Renews u × All (Apart line) row) ⊎ Since wanted line row
-  split u row [] this later e r quiet =
-      let head : this ≡ u = cc in
-      let tail : later ≡ row = cc in
-      inl (subst Renews head r, subst (All (Apart line)) tail quiet)
-  split u row (b ∷ before) this later e r quiet = inr (record {
-    before = before;
-    this = this;
-    later = later;
-    parts = cc;
-    to_line = r.0;
-    is_wanted = r.1;
-    undisturbed = quiet;
-  })
-
-  nothing : (before : List Use) (this : Use) (later : List Use) → [] ≡ before ++ (this ∷ later) → ⊥
-  nothing [] this later e = let z : ◌≡◌ {A = ℕ} 0 1 = cc in omega arith
-  nothing (b ∷ before) this later e = let z : ◌≡◌ {A = ℕ} 0 1 = cc in omega arith
-
-  from : (row : List Use) (cache : Cache) → Whole cache → Told cache row → so (after cache row) line ≡ true
-  unfolding after
-  from [] cache whole (inl s) = absurd (nothing s.before s.this s.later s.parts)
-  from [] cache whole (inr p) = p.0
-  from (u ∷ row) cache whole (inl s) =
-      let next = whole_accessed cache u.line u.store whole in
-      elim (split u row s.before s.this s.later s.parts (s.to_line, s.is_wanted) s.undisturbed) [
-        | inl p ↦ from row (used cache u) next (inr ((each cache u whole).1 (inl p.0), p.1))
-        | inr t ↦ from row (used cache u) next (inl t)
-      ]
-  from (u ∷ row) cache whole (inr p) =
-      from row (used cache u) (whole_accessed cache u.line u.store whole) (inr ((each cache u whole).1 (inr (p.0, p.1.0)), p.1.1))
-
-  told : (row : List Use) → Decides (so (after empty_cache row) line) (Since wanted line row)
-  told row = (
-    (λ h. elim (to row empty_cache whole_empty h) [ inl s ↦ s | inr p ↦ absurd (both_ways (so empty_cache line) (follows.empty line) p.0) ]),
-    λ s. from row empty_cache whole_empty (inl s),
-  )
-
-hits_follow : Follows hits (λ _. true)
+hits_follow : Follows hits Accesses
 hits_follow = record {
-  same = λ cache u whole. hit_same cache u.line u.store whole ∙ sym (or_right (hits cache u.line) true refl);
+  same = λ cache u whole. ((λ h. inl refl), λ t. hit_same cache u.line u.store whole);
+  own = λ line u w. w;
   gone = λ cache u line whole k. hit_gone cache u.line u.store whole line k;
   away = λ cache u line away. hit_away cache u.line u.store line away;
   empty = λ line. ap (has_tag (tag_of line)) (held_empty line);
 }
 
-dirty_follows : Follows dirty_in (λ u. u.store)
+dirty_follows : Follows dirty_in Stores
 dirty_follows = record {
-  same = λ cache u whole. dirty_same cache u.line u.store whole;
+  same = λ cache u whole.
+      let now = dirty_same cache u.line u.store whole in (
+        (λ h. elim (or_cases (dirty_in cache u.line) u.store (sym now ∙ h)) [ inl was ↦ inr was | inr w ↦ inl (refl, w) ]),
+        λ t. now ∙ elim t [ inl w ↦ or_right (dirty_in cache u.line) u.store w.1 | inr was ↦ or_left (dirty_in cache u.line) u.store was ],
+      );
+  own = λ line u w. w.0;
   gone = λ cache u line whole k. dirty_gone cache u.line u.store whole line k;
   away = λ cache u line away. dirty_away cache u.line u.store line away;
   empty = λ line. ap (λ o. has_tag (tag_of line) o && is_dirty o) (held_empty line);
@@ -131,8 +82,8 @@ holder (Some line) d = (line.tag, eq-eqb line.tag line.tag refl)
 
 module _ (cache : Cache) (line : ℕ) where
   -- a line that conflicts with it and is dirty is what its place holds
-  driven_out : (other : ℕ) → Conflict line other → dirty_in cache other ≡ true → (hits cache line ≡ false) × (is_dirty (held cache line) ≡ true)
-  driven_out other k d =
+  evicted : (other : ℕ) → Conflict line other → dirty_in cache other ≡ true → (hits cache line ≡ false) × (is_dirty (held cache line) ≡ true)
+  evicted other k d =
       let parts = and_parts (hits cache other) (is_dirty (held cache other)) d in
       let same : held cache other ≡ held cache line = ap (λ at. get_or cache.lines at None) (sym k.0) in (
         one_tag (held cache line) (tag_of other) (tag_of line) (ap (has_tag (tag_of other)) (sym same) ∙ parts.0) (λ t. k.1 (one_line line other k.0 (sym t))),
@@ -155,7 +106,7 @@ module _ (cache : Cache) (line : ℕ) where
       )
 
   over_dirty : (other : ℕ) → Conflict line other → dirty_in cache other ≡ true → access_cost cache line ≡ miss + write_back
-  over_dirty other k d = let out = driven_out other k d in rw (out.0, out.1) refl
+  over_dirty other k d = let out = evicted other k d in rw (out.0, out.1) refl
 
   over_clean : hits cache line ≡ false → ((other : ℕ) → Conflict line other → dirty_in cache other ≡ true → ⊥) → access_cost cache line ≡ miss
   over_clean gone none = elim (cases_Bool (is_dirty (held cache line))) [
@@ -174,7 +125,7 @@ conflicts_tell a b = Decides-and (eqb (place_of a) (place_of b)) (not (eqb a b))
 pub write_backs : WriteBacks
 write_backs cache u =
     let line = u.line in
-    let apart : (other : ℕ) → drives_out_line other cache u ≡ true → (dirty_in cache other ≡ true) × Conflict line other = λ other d.
+    let apart : (other : ℕ) → evicts_dirty_line other cache u ≡ true → (dirty_in cache other ≡ true) × Conflict line other = λ other d.
     (let p = and_parts (dirty_in cache other) (conflicts line other) d in (p.0, (conflicts_tell line other).0 p.1)) in
     record {
       some = (
@@ -184,7 +135,7 @@ write_backs cache u =
             (out.0, and_from (dirty_in cache out.0) (conflicts line out.0) out.2 ((conflicts_tell line out.0).1 out.1))),
         λ s.
             let p = apart s.0 s.1 in
-            let out = driven_out cache line s.0 p.1 p.0 in
+            let out = evicted cache line s.0 p.1 p.0 in
             and_from (not (hits cache line)) (is_dirty (held cache line)) (not_from_false (hits cache line) out.0) out.1,
       );
       only = λ a b da db.
@@ -197,14 +148,10 @@ write_backs cache u =
           (ap (has_tag (tag_of b)) (sym same) ∙ (and_parts (hits cache b) (is_dirty (held cache b)) q.0).0));
     }
 
-never : (b : Bool) → (b ≡ true → ⊥) → b ≡ false
-never true h = absurd (h refl)
-never false h = refl
-
 pub remembers : Remembers
 remembers row =
-    let resident = λ (line : ℕ). told hits (λ _. true) hits_follow line row in
-    let stored = λ (line : ℕ). told dirty_in (λ u. u.store) dirty_follows line row in
+    let resident = λ (line : ℕ). since hits Accesses hits_follow line row in
+    let stored = λ (line : ℕ). since dirty_in Stores dirty_follows line row in
     let cache = after empty_cache row in
     record {
       resident = resident;
@@ -212,6 +159,6 @@ remembers row =
       next = λ line. record {
         hit = λ r. cond-true (hits cache line) 0 (miss + cond (is_dirty (held cache line)) write_back 0) ((resident line).1 r);
         over_dirty = λ other k s. over_dirty cache line other (sym k.0, λ e. k.1 (sym e)) ((stored other).1 s);
-        over_clean = λ out none. over_clean cache line (never (hits cache line) (λ h. out ((resident line).0 h))) (λ other k d. none other (sym k.0, λ e. k.1 (sym e)) ((stored other).0 d));
+        over_clean = λ out none. over_clean cache line (false_from_ne_true (hits cache line) (λ h. out ((resident line).0 h))) (λ other k d. none other (sym k.0, λ e. k.1 (sym e)) ((stored other).0 d));
       };
     }

@@ -41,7 +41,7 @@ module _ (access : Access) where
     faulted_fills None walk e = ap (put tlb page) (faulted page_walk (granted access walk) e)
     faulted_fills (Some leaf) walk e = refl
 
-    known_put : (leaf : Leaf) → length tlb.entries ≡ 16 → known (put tlb page (Some leaf)) page ≡ Some leaf
+    pub known_put : (leaf : Leaf) → length tlb.entries ≡ 16 → known (put tlb page (Some leaf)) page ≡ Some leaf
     known_put leaf e =
         let entry : Option TlbEntry = Some (record { page = page; leaf = leaf }) in
         let room : entry_of page < length tlb.entries = omega (arith, mod_below page 16 (omega arith)) in

@@ -1,15 +1,15 @@
 -- Branches that are taken again and again.
-use Rattle.std.proofs.Common.{◌≡◌, ℕ, zero, suc, ◌+◌, ◌/◌, ◌<◌, ◌≤◌, min, Bool, true, false, cond, eqb, leb, ◌⊎◌, List, [], ◌∷◌, length, get_or, replicate, sym, refl, ap, ◌∙◌, inl, inr, add-one, arith}
+use Rattle.std.proofs.Common.{◌≡◌, ℕ, zero, suc, ◌+◌, ◌/◌, ◌<◌, ◌≤◌, min, Bool, true, false, cond, eqb, leb, ◌⊎◌, List, [], ◌∷◌, ◌++◌, length, get_or, replicate, sym, refl, ap, ◌∙◌, inl, inr, add-one, arith}
 use Rattle.std.proofs.lemmas.Nat.{mod_below}
 use Rattle.std.proofs.ByRecursion.{All-get_or, All-set}
 use Rattle.std.proofs.lemmas.List.{get_or_past, get_or-replicate, get_or-set_other, get_or-set_same, length-replicate, length-set}
-use Rattle.std.proofs.lemmas.Bool.{cases_eq, cases_lt, eq-eqb, le-leb, ne_eqb}
+use Rattle.std.proofs.lemmas.Bool.{cases_eq, cases_lt, eq-eqb, le-leb, lt-leb, ne_eqb}
 use Rattle.std.specs.List.{AllByRecursion as All}
 use Rattle.words.specs.Costs.{misprediction}
 use Rattle.tables.specs.declared.predictor.Predictor.{Predictor}
 use Rattle.tables.specs.Predictor.{branch_cost, counted, counter, counter_of, first_predictor, learned}
-use Rattle.tables.specs.Loops.{Branch, Taken, loop_cost}
-use Rattle.tables.specs.Laws.{CountersStay, LoopsPredicted}
+use Rattle.tables.specs.Loops.{Branch, Taken, branch_costs, loop_and_again, loop_cost, taken_at}
+use Rattle.tables.specs.Laws.{CountersStay, Counts, LoopsLeft, LoopsPredicted}
 use Rattle.tables.proofs.Lines.{charged_at_most}
 
 abbrev AsMany : Predictor → Type 0
@@ -76,7 +76,7 @@ module _ (address : ℕ) where
         | inr t ↦ omega (arith, t.0, once row (next predictor b) many_next all.1 (omega (arith, t.1)))
       ]
 
-  always : (n : ℕ) → All (Taken address) (replicate n (record { address = address; taken = true }))
+  always : (n : ℕ) → All (Taken address) (replicate n (taken_at address))
   always zero = tt
   always (suc n) = ((λ _. refl), always n)
 
@@ -86,13 +86,13 @@ first_as_many = length-replicate {A = ℕ} 64 1
 first_counter : (address : ℕ) → counter first_predictor address ≡ 1
 first_counter address = get_or-replicate {A = ℕ} 64 (counter_of address) 1 0 (mod_below (address / 4) 64 (omega arith))
 
-alone : (address n : ℕ) → loop_cost address first_predictor (replicate (n + 1) (record { address = address; taken = true })) ≡ misprediction
+alone : (address n : ℕ) → loop_cost address first_predictor (replicate (n + 1) (taken_at address)) ≡ misprediction
 unfolding loop_cost
 alone address n =
     let next = learned first_predictor address true in
     let is : eqb (counter_of address) (counter_of address) ≡ true = eq-eqb (counter_of address) (counter_of address) refl in
     let second : counter next address ≡ 2 = counter_learned first_predictor address true first_as_many ∙ rw (first_counter address) refl in
-    let rest = steady address (replicate n (record { address = address; taken = true })) next (as_many_learned first_predictor address true first_as_many) (always address n) (omega (arith, second)) in
+    let rest = steady address (replicate n (taken_at address)) next (as_many_learned first_predictor address true first_as_many) (always address n) (omega (arith, second)) in
     rw (add-one, is, rest, first_counter address) refl
 
 pub loops_predicted : LoopsPredicted
@@ -100,6 +100,39 @@ loops_predicted address = record {
   alone = alone address;
   among_others = λ row all. once address row first_predictor first_as_many all (omega (arith, first_counter address));
 }
+
+pub counts : Counts
+counts predictor address many = record {
+  up = counter_learned predictor address true many;
+  down = counter_learned predictor address false many;
+  others = λ other taken ne. counter_other predictor address taken other ne;
+  high = λ l. let right : leb 2 (counter predictor address) ≡ true = le-leb 2 (counter predictor address) l in (rw right refl, rw right refl);
+  low = λ l. let wrong : leb 2 (counter predictor address) ≡ false = lt-leb 2 (counter predictor address) l in (rw wrong refl, rw wrong refl);
+}
+
+-- a loop's turns from 3 on are right, the exit is not, and the next entry is
+leaving : (address n : ℕ) (predictor : Predictor) → AsMany predictor → counter predictor address ≡ 3 →
+    branch_costs predictor (loop_and_again address n) ≡ replicate n 0 ++ (misprediction ∷ (0 ∷ []))
+unfolding branch_costs
+leaving address zero predictor many at =
+    let next : counter (learned predictor address false) address ≡ 2 = counter_learned predictor address false many ∙ rw at refl in
+    rw (next, at) refl
+leaving address (suc n) predictor many at =
+    let next : counter (learned predictor address true) address ≡ 3 = counter_learned predictor address true many ∙ rw at refl in
+    let rest = leaving address n (learned predictor address true) (as_many_learned predictor address true many) next in
+    rw (rest, at) refl
+
+pub loops_left : LoopsLeft
+unfolding branch_costs
+loops_left address n =
+    let once = learned first_predictor address true in
+    let many = as_many_learned first_predictor address true first_as_many in
+    let second : counter once address ≡ 2 = counter_learned first_predictor address true first_as_many ∙ rw (first_counter address) refl in
+    let third : counter (learned once address true) address ≡ 3 = counter_learned once address true many ∙ rw second refl in
+    let rest = leaving address n (learned once address true) (as_many_learned once address true many) third in
+    let turns : n + 2 ≡ suc (suc n) = omega arith in
+    let others : n + 1 ≡ suc n = omega arith in
+    rw (turns, others, rest, second, first_counter address) refl
 
 replicated : (n : ℕ) → All (λ (k : ℕ). k ≤ 3) (replicate n 1)
 replicated zero = tt

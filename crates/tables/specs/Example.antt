@@ -1,4 +1,5 @@
--- A store and two loads, worked: the root is frame 0, its first entry points to frame 1, where pages 17 and 18 map to frames 2 and 3 with R and W.
+-- A store and two loads, worked by the tables alone: what the look-up and the access of an instruction add up to. The whole step of a program is the core's.
+-- The root is frame 0, its first entry points to frame 1, where pages 17 and 18 map to frames 2 and 3 with R and W.
 use Rattle.std.specs.Prelude.{◌≡◌, ℕ, ◌+◌, ◌/◌, Bool, true, false, List, replicate, unwrap_or}
 use Rattle.words.specs.Costs.{instruction, miss, page_walk, write_back}
 use Rattle.words.specs.Frames.{written}

@@ -1,9 +1,18 @@
 -- What a row of loads and stores alone tells, with no cache in it.
-use Rattle.std.specs.Prelude.{◌≡◌, ℕ, ◌+◌, Bool, true, List, ◌∷◌, ◌++◌, ◌≢◌}
+use Rattle.std.specs.Prelude.{◌≡◌, ℕ, ◌+◌, true, List, ◌∷◌, ◌++◌, ◌≢◌}
 use Rattle.std.specs.List.{AllByRecursion}
 use Rattle.words.specs.Costs.{miss, write_back}
 use Rattle.tables.specs.Cache.{place_of}
 use Rattle.tables.specs.Rows.{Use}
+
+-- the row has something wanted, and after it only what leaves that as it is
+pub record Since {U : Type 0} (Wanted Leaves : U → Type 0) (row : List U) : Type 0 where
+  pub before : List U
+  pub this : U
+  pub later : List U
+  pub parts : row ≡ before ++ (this ∷ later)
+  pub is_wanted : Wanted this
+  pub undisturbed : AllByRecursion Leaves later
 
 -- two lines of memory that cannot be in the cache together
 abbrev pub Conflict : ℕ → ℕ → Type 0
@@ -12,23 +21,21 @@ Conflict a b = (place_of a ≡ place_of b) × (a ≢ b)
 abbrev pub Apart : ℕ → Use → Type 0
 Apart line u = Conflict u.line line → ⊥
 
--- the row has a wanted access to the line, and none after it that conflicts with the line
-pub record Since (wanted : Use → Bool) (line : ℕ) (row : List Use) : Type 0 where
-  pub before : List Use
-  pub this : Use
-  pub later : List Use
-  pub parts : row ≡ before ++ (this ∷ later)
-  pub to_line : this.line ≡ line
-  pub is_wanted : wanted this ≡ true
-  pub undisturbed : AllByRecursion (Apart line) later
+-- an access to the line
+abbrev pub Accesses : ℕ → Use → Type 0
+Accesses line u = u.line ≡ line
 
--- the line came in, and has not been driven out
+-- a store to the line
+abbrev pub Stores : ℕ → Use → Type 0
+Stores line u = (u.line ≡ line) × (u.store ≡ true)
+
+-- the line came in, and has not been evicted
 abbrev pub Resident : ℕ → List Use → Type 0
-Resident = Since (λ _. true)
+Resident line = Since (Accesses line) (Apart line)
 
 -- the line was stored to since it last came in
 abbrev pub Stored : ℕ → List Use → Type 0
-Stored = Since (λ u. u.store)
+Stored line = Since (Stores line) (Apart line)
 
 -- what an access to a line costs after a row
 pub record Costs (row : List Use) (line cost : ℕ) : Type 0 where

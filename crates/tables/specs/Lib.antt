@@ -5,6 +5,7 @@ pub mod Predictor
 pub mod First
 pub mod Rows
 pub mod History
+pub mod Pages
 pub mod Loops
 pub mod Honest
 pub mod Laws

@@ -36,13 +36,13 @@ times test cache (u ∷ row) = weight (test cache u) 1 + times test (used cache 
 abbrev pub dirty_in : Cache → ℕ → Bool
 dirty_in cache line = hits cache line && is_dirty (held cache line)
 
--- a line is brought in
-abbrev pub brings_in : Cache → Use → Bool
-brings_in cache u = not (hits cache u.line)
+-- a line that was not there fills its place
+abbrev pub fills : Cache → Use → Bool
+fills cache u = not (hits cache u.line)
 
--- a dirty line is driven out
-abbrev pub drives_out : Cache → Use → Bool
-drives_out cache u = not (hits cache u.line) && is_dirty (held cache u.line)
+-- a dirty line is evicted
+abbrev pub evicts_dirty : Cache → Use → Bool
+evicts_dirty cache u = not (hits cache u.line) && is_dirty (held cache u.line)
 
 -- a line that was not there, or was there and not dirty, is made dirty
 abbrev pub makes_dirty : Cache → Use → Bool
@@ -52,9 +52,9 @@ makes_dirty cache u = u.store && not (dirty_in cache u.line)
 abbrev pub conflicts : ℕ → ℕ → Bool
 conflicts a b = place_of a == place_of b && not (a == b)
 
--- this very line is driven out dirty, or made dirty
-abbrev pub drives_out_line : ℕ → Cache → Use → Bool
-drives_out_line line cache u = dirty_in cache line && conflicts u.line line
+-- this very line is evicted dirty, or made dirty
+abbrev pub evicts_dirty_line : ℕ → Cache → Use → Bool
+evicts_dirty_line line cache u = dirty_in cache line && conflicts u.line line
 
 abbrev pub makes_line_dirty : ℕ → Cache → Use → Bool
 makes_line_dirty line cache u = u.line == line && makes_dirty cache u

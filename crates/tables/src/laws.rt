@@ -1,6 +1,6 @@
 // What the definitions of this crate come to, owed by this function's contract.
 ghost use Rattle.tables.specs.Example.{Example};
-ghost use Rattle.tables.specs.Laws.{AccessCosts, Charges, ComesIn, CountersStay, FrameIsTag, FramesConflict, Highest, Honesty, LookUps, LoopsPredicted, Remembers, WriteBacks};
+ghost use Rattle.tables.specs.Laws.{AccessCosts, Charges, ComesIn, CountersStay, Counts, FrameIsTag, FramesConflict, Highest, Honesty, LookUps, LoopsLeft, LoopsPredicted, Remembers, RemembersPages, WriteBacks};
 
 pub fn laws()
     ensures costs { AccessCosts }
@@ -11,8 +11,11 @@ pub fn laws()
     ensures writebacks { WriteBacks }
     ensures conflicts { FramesConflict }
     ensures loops { LoopsPredicted }
+    ensures exits { LoopsLeft }
+    ensures counts { Counts }
     ensures counters { CountersStay }
     ensures lookups { LookUps }
+    ensures pages { RemembersPages }
     ensures honesty { Honesty }
     ensures highest { Highest }
     ensures example { Example }

@@ -1,9 +1,10 @@
 -- What is left to show of `laws`.
 use Rattle.tables.proofs.Lines.{access_costs, comes_in, frame_is_tag, frames_conflict}
+use Rattle.tables.proofs.Pages.{remembers_pages}
 use Rattle.tables.proofs.Sums.{charges}
 use Rattle.tables.proofs.Told.{remembers, write_backs}
 use Rattle.tables.proofs.Truth.{highest_costs, honesty, look_ups}
-use Rattle.tables.proofs.Turns.{counters_stay, loops_predicted}
+use Rattle.tables.proofs.Turns.{counters_stay, counts, loops_left, loops_predicted}
 use Rattle.tables.proofs.Worked.{worked}
 use Rattle.tables.proofs.laws.laws.Goals as goal
 
@@ -17,8 +18,11 @@ returns c = record {
   writebacks = write_backs;
   conflicts = frames_conflict;
   loops = loops_predicted;
+  exits = loops_left;
+  counts = counts;
   counters = counters_stay;
   lookups = look_ups;
+  pages = remembers_pages;
   honesty = honesty;
   highest = highest_costs;
   example = worked;
