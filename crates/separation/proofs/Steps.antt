@@ -11,6 +11,7 @@ use Rattle.hart.specs.declared.context.State.TheVariants.{Ready, Stopped}
 use Rattle.hart.specs.Core.{stepped}
 use Rattle.hart.specs.Laws.{SameOwn}
 use Rattle.hart.specs.Steps.{Step}
+use Rattle.hart.proofs.Agreeing.{agreement}
 use Rattle.hart.proofs.Honesty.{stays_honest}
 use Rattle.hart.proofs.Own.{sees_own}
 use Rattle.hart.proofs.Stepping.{steps}
@@ -19,7 +20,9 @@ use Rattle.plan.specs.declared.model.Plan.{Plan}
 use Rattle.checker.specs.Found.{Separate}
 use Rattle.checker.specs.Lawful.{root}
 use Rattle.kernel.specs.Inside.{Inside, next, until}
+use Rattle.kernel.proofs.Running.{idles, until_past, until_step}
 use Rattle.separation.specs.Agreement.{SameInside, SameWords}
+use Rattle.separation.specs.Promises.{GoesOn}
 use Rattle.separation.proofs.Frames.{Kept, kernel_back, kept_none, kept_more, kept_lent, names_back, others_kept, owns_back, owns_there}
 
 -- what the checker tells of the frames of a plan's partitions
@@ -131,6 +134,43 @@ module _ (p : Plan) (who : ℕ) (kn : who < p.counts.partitions) where
 module _ (root stop : ℕ) where
   step_of : (x : Inside) → Step x.context x.tables x.words root x.clock
   step_of x = steps x.context x.tables x.words root x.clock
+
+  -- one step more is one at the end, as long as that is not reached
+  until_last : (n : ℕ) (x : Inside) → (until root stop n x).clock < stop → until root stop (suc n) x ≡ next root (until root stop n x)
+  unfolding until
+  until_last zero x l = until_step root stop zero x l
+  until_last (suc n) x l = elim (cases_lt x.clock stop) [
+    | inl b ↦
+        let e = until_step root stop n x b in
+        until_step root stop (suc n) x b ∙ until_last n (next root x) (rw e at l) ∙ ap (next root) (sym e)
+    | inr b ↦ absurd (omega (arith, b, l, ap (λ y. y.clock) (until_past root stop (suc n) x b)))
+  ]
+
+  until_rests : (n : ℕ) (x : Inside) → stop ≤ (until root stop n x).clock → until root stop (suc n) x ≡ until root stop n x
+  unfolding until
+  until_rests zero x l = until_past root stop 1 x l
+  until_rests (suc n) x l = elim (cases_lt x.clock stop) [
+    | inl b ↦
+        let e = until_step root stop n x b in
+        until_step root stop (suc n) x b ∙ until_rests n (next root x) (rw e at l) ∙ sym e
+    | inr b ↦ until_past root stop (suc (suc n)) x b ∙ sym (until_past root stop (suc n) x b)
+  ]
+
+  pub until_goes_on : (n : ℕ) (x : Inside) → Honest (until root stop n x).tables.tlb (until root stop n x).words root → GoesOn root stop (until root stop n x) (until root stop (suc n) x)
+  until_goes_on n x honest =
+      let y = until root stop n x in
+      let same = agreement y.context y.tables y.words root y.clock honest in
+      record {
+        executes = λ l ready. let e = until_last n x l in record {
+          context = ap (λ z. z.context) e ∙ same.context;
+          words = ap (λ z. z.words) e ∙ same.words;
+          least = omega (arith, ap (λ z. z.clock) e, (step_of y).least);
+          most = omega (arith, ap (λ z. z.clock) e, (step_of y).most);
+          counted = ap (λ z. z.instructions) e ∙ (rw ready);
+        };
+        waits = λ l stopped. until_last n x l ∙ idles root stop y stopped;
+        ends = until_rests n x;
+      }
 
   -- the last instruction may begin in the last cycle
   pub until_most : (n : ℕ) (x : Inside) → x.clock < stop + highest → (until root stop n x).clock < stop + highest

@@ -1,6 +1,5 @@
 -- Noninterference: two systems that agree on a closed set go on agreeing, slot by slot and step by step.
-use Rattle.std.proofs.Common.{◌≡◌, ℕ, zero, suc, ◌+◌, ◌^◌, ◌<◌, true, cond, ◌&&◌, ltb, List, length, Some, None, sym, refl, ap, ◌∙◌, subst, inl, inr, arith}
-use Rattle.std.proofs.lemmas.List.{get_or-set_same}
+use Rattle.std.proofs.Common.{◌≡◌, ℕ, zero, suc, ◌+◌, ◌^◌, ◌<◌, true, cond, ◌&&◌, ltb, List, Some, None, sym, refl, ap, ◌∙◌, subst, inl, inr, arith}
 use Rattle.std.proofs.lemmas.Bool.{cases_Bool, cases_eq}
 use Rattle.words.specs.Frames.{word}
 use Rattle.paging.specs.Tables.{SameTables}
@@ -13,17 +12,15 @@ use Rattle.checker.specs.Lawful.{root}
 use Rattle.checker.proofs.Judged.{accepted_sound}
 use Rattle.kernel.specs.declared.report.Report.{Report}
 use Rattle.kernel.specs.Inside.{Inside, beginning, until}
-use Rattle.hart.specs.Execution.{fresh}
 use Rattle.kernel.specs.Machine.{System, after_slot, after_slots, can_run, coming, context_of, ended, entered, inside_after, slot_end, who_runs}
 use Rattle.kernel.specs.Reports.{report_of, slot_report}
 use Rattle.kernel.specs.Switch.{delivered}
 use Rattle.separation.specs.Agreement.{Agree, AllBut, In, Noninterference, NotReached, Only, SameInside, SameReport, SameWords, StepByStep, Unseen}
 use Rattle.separation.specs.Flows.{Closed, RowOfFlows, stays, goes_on}
-use Rattle.separation.specs.Promises.{runs}
 use Rattle.separation.specs.Running.{BeforeSlot}
 use Rattle.separation.proofs.Carrying.{delivered_alike}
 use Rattle.separation.proofs.Frames.{owns_back, owns_there}
-use Rattle.separation.proofs.Slots.{before_again, cleared, confined, contexts_are, end_facts, good, known, next, turned, went, who_known, words_are}
+use Rattle.separation.proofs.Slots.{before_again, cleared, confined, end_facts, good, known, next, ran_context, turned, went, who_known, words_are}
 use Rattle.separation.proofs.Steps.{Good, foreign, until_alike}
 
 -- reports with the same parts
@@ -104,18 +101,12 @@ module _ (bytes : List ℕ) (p : Plan) (ea eb : List Ends) (A : ℕ → Type 0) 
       there_able : can_run p t.machine ≡ true
       there_able = same_can ∙ here_able
 
-      -- what the program that ran has become
-      ran_context : (a : Accepted) (u : System) (r : BeforeSlot bytes a u) → can_run a.plan u.machine ≡ true → (w : ℕ) → w ≡ runs a u → context_of (after_slot a u).machine w ≡ (ended a.plan u).context
-      ran_context a u r able w e =
-          let inside : w < length u.machine.contexts = omega (arith, e, who_known bytes a u r, (known bytes a u r).timely.few, r.contexts) in
-          rw (contexts_are bytes a u r able, sym e) (get_or-set_same u.machine.contexts w (ended a.plan u).context (fresh 0) inside)
-
       contexts : (q : ℕ) → q < p.counts.partitions → A q → context_of (after_slot other t).machine q ≡ context_of (after_slot one s).machine q
       contexts q l m = elim (cases_eq q (who_runs p s.machine)) [
         | inl e ↦
-            ran_context other t rt there_able q (e ∙ sym same_who)
+            ran_context bytes other t rt there_able q (e ∙ sym same_who)
             ∙ ap (λ x. x.context) same_ended ∙ (steps (subst A e m) (coming p s.machine).length).context
-            ∙ sym (ran_context one s rs here_able q e)
+            ∙ sym (ran_context bytes one s rs here_able q e)
         | inr ne ↦
             (confined bytes other t rt there_able q l (λ e. ne (e ∙ same_who))).context ∙ same.contexts q l m ∙ sym (confined bytes one s rs here_able q l ne).context
       ]
