@@ -44,6 +44,10 @@ pub foreign : (p : Plan) (ws : List ℕ) (q who f : ℕ) → Separate ws p → q
 foreign p ws q who f s lq lw ne (inl kernel) n = s.hidden who q f lw lq n kernel
 foreign p ws q who f s lq lw ne (inr names) n = ne (s.alone q who f lq lw names n)
 
+-- where the words of the members are the same, so are their tables
+pub tables_of : (p : Plan) (A : ℕ → Type 0) (ws vs : List ℕ) → SameWords p A ws vs → (q : ℕ) → q < p.counts.partitions → A q → SameTables ws vs (root p q)
+tables_of p A ws vs same q known member f k kernel l = same q f k known member l (inl kernel)
+
 module _ (p : Plan) (who : ℕ) (kn : who < p.counts.partitions) where
   r : ℕ
   r = root p who
@@ -91,7 +95,7 @@ module _ (p : Plan) (who : ℕ) (kn : who < p.counts.partitions) where
   module _ (A : ℕ → Type 0) (member : A who) where
     pub own : (ws vs : List ℕ) → SoundFrames p ws → SoundFrames p vs → SameWords p A ws vs → SameOwn ws vs (root p who)
     own ws vs sw sv same =
-        let tables : SameTables ws vs (root p who) = λ f k o l. same who f k kn member l (inl o) in
+        let tables = tables_of p A ws vs same who kn member in
         record {
           tables = tables;
           lent = λ f o. sv.lent who f kn (owns_there ws vs (root p who) tables f o) ∙ sym (sw.lent who f kn o);
@@ -115,7 +119,7 @@ module _ (p : Plan) (who : ℕ) (kn : who < p.counts.partitions) where
               elim (cases_eq q who) [
                 | inl here ↦ ap (λ z. word z.words f k) e ∙ s.words f k (same.words q f k l m b before)
                 | inr ne ↦
-                    let tables : SameTables x.words y.words (root p q) = λ g j c d. same.words q g j l m d (inl c) in
+                    let tables = tables_of p A x.words y.words same.words q l m in
                     wy.others f k (foreign p y.words q who f gy.sound.separate l kn ne (owns_there x.words y.words (root p q) tables f before)) b
                     ∙ same.words q f k l m b before
                     ∙ sym (wx.others f k (foreign p x.words q who f gx.sound.separate l kn ne before) b)
