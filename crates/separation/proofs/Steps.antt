@@ -168,6 +168,8 @@ module _ (root stop : ℕ) where
         executes = λ l ready. let e = until_last n x l in record {
           context = ap (λ z. z.context) e ∙ same.context;
           words = ap (λ z. z.words) e ∙ same.words;
+          tables = ap (λ z. z.tables) e;
+          clock = ap (λ z. z.clock) e;
           least = omega (arith, ap (λ z. z.clock) e, (step_of y).least);
           most = omega (arith, ap (λ z. z.clock) e, (step_of y).most);
           counted = ap (λ z. z.instructions) e ∙ (rw ready);

@@ -9,6 +9,7 @@ use Rattle.tables.specs.First.{first_tables}
 use Rattle.tables.specs.Honest.{Honest}
 use Rattle.hart.specs.declared.context.State.TheVariants.{Ready}
 use Rattle.hart.specs.Architecture.{architecture}
+use Rattle.hart.specs.Core.{stepped}
 use Rattle.hart.specs.Execution.{is_ready}
 use Rattle.plan.specs.Rules.{channel}
 use Rattle.checker.specs.declared.Accepted.{Accepted}
@@ -51,11 +52,13 @@ pub record Confined (a : Accepted) (s t : System) (q : ℕ) : Type 0 where
       Behind s.words a.plan (channel a.plan k).receiver f → ⊥) →
       word t.words f j ≡ word s.words f j
 
--- an instruction at a reading of the clock does to registers, counter, state and words what the architecture does, which knows no tables. It takes a cycle at least,
--- the highest cost at most, and is counted
+-- an instruction at a reading of the clock does to registers, counter, state and words what the architecture does, which knows no tables. It leaves the tables that the
+-- core leaves and takes the core's cycles, one at least and the highest cost at most, and it is counted
 pub record OneInstruction (root : ℕ) (x y : Inside) : Type 0 where
   pub context : y.context ≡ (architecture x.context x.words root x.clock).context
   pub words : y.words ≡ (architecture x.context x.words root x.clock).words
+  pub tables : y.tables ≡ (stepped x.context x.tables x.words root x.clock).tables
+  pub clock : y.clock ≡ x.clock + (stepped x.context x.tables x.words root x.clock).cost
   pub least : x.clock < y.clock
   pub most : y.clock ≤ x.clock + highest
   pub counted : y.instructions ≡ x.instructions + 1
