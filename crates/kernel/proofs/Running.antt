@@ -23,7 +23,7 @@ module _ (root stop : ℕ) where
   until_past zero x l = refl
   until_past (suc n) x l = cond-false (ltb x.clock stop) _ _ (le-ltb x.clock stop l)
 
-  until_step : (n : ℕ) (x : Inside) → x.clock < stop → until root stop (suc n) x ≡ until root stop n (next root x)
+  pub until_step : (n : ℕ) (x : Inside) → x.clock < stop → until root stop (suc n) x ≡ until root stop n (next root x)
   unfolding until
   until_step n x l = cond-true (ltb x.clock stop) _ _ (lt-ltb x.clock stop l)
 
@@ -51,7 +51,7 @@ module _ (root stop : ℕ) where
   idle Ready x t ws clock e = absurd (true≢false e)
   idle (Stopped cause pc) x t ws clock e = refl
 
-  idles : (x : Inside) → is_ready x.context.state ≡ false → next root x ≡ record { context = x.context; tables = x.tables; words = x.words; clock = x.clock + 1; instructions = x.instructions }
+  pub idles : (x : Inside) → is_ready x.context.state ≡ false → next root x ≡ record { context = x.context; tables = x.tables; words = x.words; clock = x.clock + 1; instructions = x.instructions }
   unfolding stepped
   idles x e = rw (idle x.context.state x.context x.tables x.words x.clock e, e, add-zero)
 

@@ -1,4 +1,4 @@
--- A line that is put together from its end: what stands of it.
+-- The text of a line so far. It is written from its end towards its beginning, so it is what stands from `start` on.
 use Rattle.std.specs.Prelude.{ℕ, List, drop}
 use Rattle.kernel.specs.declared.line.Line.{Line}
 

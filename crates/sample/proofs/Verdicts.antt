@@ -48,6 +48,10 @@ module _ (l : Layout) (content : ℕ → ℕ → ℕ) (h : Spread l) where
   none_shared zero (suc (suc b)) la lb c = omega arith
   none_shared (suc zero) (suc (suc b)) la lb c = omega arith
 
+pub channels_1 : (plan_of two).counts.channels ≡ 1
+unfolding plan_of
+channels_1 = refl
+
 module _ (l : Layout) (content : ℕ → ℕ → ℕ) (h : Fits l) where
   pub tabled : Tabled l
   tabled = record { enough = h.enough; table = h.table; below = omega (arith, h.table.2, h.few); mailbox = omega (arith, h.mailbox.2, h.few) }
@@ -70,10 +74,6 @@ module _ (l : Layout) (content : ℕ → ℕ → ℕ) (h : Fits l) where
     apart = none_shared l content spread;
     all_lent = all_lent;
   }
-
-  channels_1 : (plan_of two).counts.channels ≡ 1
-  unfolding plan_of
-  channels_1 = refl
 
   ends : get_or (accepted (memory l content) (plan_of two)).ends 0 no_ends ≡ record { sender = 6; receiver = l.mailbox }
   unfolding plan_of

@@ -3,7 +3,7 @@ use Rattle.std.proofs.Common.{◌≡◌, ℕ, zero, suc, ◌<◌, ◌≤◌, tru
 use Rattle.std.proofs.lemmas.Bool.{cases_Bool, cases_eq, cases_lt, true≢false}
 use Rattle.words.specs.Frames.{word}
 use Rattle.words.proofs.Frame.{copies}
-use Rattle.paging.specs.Tables.{Names, Owns, SameTables}
+use Rattle.paging.specs.Tables.{Names, Owns}
 use Rattle.paging.proofs.Agree.{tables_decide, walks_find}
 use Rattle.plan.specs.declared.model.Endpoint.{Endpoint}
 use Rattle.plan.specs.declared.model.Plan.{Plan}
@@ -18,7 +18,7 @@ use Rattle.separation.specs.Agreement.{SameWords}
 use Rattle.separation.specs.Flows.{Closed}
 use Rattle.separation.proofs.Facts.{Facts, behind_names, facts_kept}
 use Rattle.separation.proofs.Frames.{Kept, kept_more, kept_none, others_kept, owns_back, owns_there}
-use Rattle.separation.proofs.Steps.{foreign}
+use Rattle.separation.proofs.Steps.{foreign, tables_of}
 
 module _ (a : Accepted) (who : ℕ) where
   -- one message
@@ -99,20 +99,18 @@ is_receiver p k l us e h q f lq o at = elim (cases_eq q (channel p k).receiver.p
       (subst (Names us (root p (channel p k).receiver.partition)) (sym at) (behind_names p us (channel p k).receiver (ends_at e k).receiver (h.joined.receiver k l))))
 ]
 
+-- a plan that was accepted with these frames of its channels
+abbrev pub with_ends : Plan → List Ends → Accepted
+with_ends p ends = record { plan = p; ends = ends }
+
 -- two systems of one plan that agree on a set
 module _ (p : Plan) (ea eb : List Ends) (A : ℕ → Type 0) where
-  abbrev one : Accepted
-  one = record { plan = p; ends = ea }
-
-  abbrev other : Accepted
-  other = record { plan = p; ends = eb }
-
   module _ (ws vs : List ℕ) (hw : Facts p ea ws) (hv : Facts p eb vs) (same : SameWords p A ws vs) where
     -- a page of a member has the same frame behind it
     same_behind : (end : Endpoint) (f g : ℕ) → end.partition < p.counts.partitions → A end.partition → Behind ws p end f → Behind vs p end g → g ≡ f
     same_behind end f g l m x y =
         let r = root p end.partition in
-        let tables : SameTables ws vs (root p end.partition) = λ h k o c. same end.partition h k l m c (inl o) in
+        let tables = tables_of p A ws vs same end.partition l m in
         let walks = (tables_decide ws vs (root p end.partition) tables).walks (λ h o. hv.frames.lent end.partition h l (owns_there ws vs (root p end.partition) tables h o) ∙ sym (hw.frames.lent end.partition h l o)) end.page in
         let here = (walks_find ws (root p end.partition) end.page).found x.leaf x.maps in
         let there = (walks_find vs (root p end.partition) end.page).found y.leaf y.maps in
@@ -132,35 +130,35 @@ module _ (p : Plan) (ea eb : List Ends) (A : ℕ → Type 0) where
       same_sender m = same_behind ws vs hw hv same (channel p k).sender _ _ (hw.joined.sender_known k l) m (hw.joined.sender k l) (hv.joined.sender k l)
 
       arrives : (q f j : ℕ) → q < p.counts.partitions → A q → j < 1024 → Owns ws (root p q) f → leaves p who k ≡ true → f ≡ (ends_at ea k).receiver →
-          word (carried other who k vs) f j ≡ word (carried one who k ws) f j
+          word (carried (with_ends p eb) who k vs) f j ≡ word (carried (with_ends p ea) who k ws) f j
       arrives q f j lq m b o goes at =
           let member = subst A (is_receiver p k l ws ea hw q f lq o at) m in
           let s = same_sender (sends member) in
           let r = same_receiver member in
-          let there : word (carried other who k vs) (ends_at eb k).receiver j ≡ word vs (ends_at eb k).sender j = carried_there other who k vs l hv j b goes in
-          let here : word (carried one who k ws) (ends_at ea k).receiver j ≡ word ws (ends_at ea k).sender j = carried_there one who k ws l hw j b goes in
-          let between = same (channel p k).sender.partition (ends_at ea k).sender j (hw.joined.sender_known k l) (sends member) b (sender_owned one who k ws l hw) in
-          ap (λ g. word (carried other who k vs) g j) (at ∙ sym r) ∙ there ∙ ap (λ g. word vs g j) s ∙ between ∙ sym here ∙ ap (λ g. word (carried one who k ws) g j) (sym at)
+          let there : word (carried (with_ends p eb) who k vs) (ends_at eb k).receiver j ≡ word vs (ends_at eb k).sender j = carried_there (with_ends p eb) who k vs l hv j b goes in
+          let here : word (carried (with_ends p ea) who k ws) (ends_at ea k).receiver j ≡ word ws (ends_at ea k).sender j = carried_there (with_ends p ea) who k ws l hw j b goes in
+          let between = same (channel p k).sender.partition (ends_at ea k).sender j (hw.joined.sender_known k l) (sends member) b (sender_owned (with_ends p ea) who k ws l hw) in
+          ap (λ g. word (carried (with_ends p eb) who k vs) g j) (at ∙ sym r) ∙ there ∙ ap (λ g. word vs g j) s ∙ between ∙ sym here ∙ ap (λ g. word (carried (with_ends p ea) who k ws) g j) (sym at)
 
-      pub carried_alike : SameWords p A (carried one who k ws) (carried other who k vs)
+      pub carried_alike : SameWords p A (carried (with_ends p ea) who k ws) (carried (with_ends p eb) who k vs)
       carried_alike q f j lq m b o2 =
-          let o = owns_back ws (carried one who k ws) (root p q) ((carried_kept one who k ws l hw).tables q lq) f o2 in
-          let tables : SameTables ws vs (root p q) = λ h i c d. same q h i lq m d (inl c) in
+          let o = owns_back ws (carried (with_ends p ea) who k ws) (root p q) ((carried_kept (with_ends p ea) who k ws l hw).tables q lq) f o2 in
+          let tables = tables_of p A ws vs same q lq m in
           elim (cases_Bool (leaves p who k)) [
             | inl goes ↦ elim (cases_eq f (ends_at ea k).receiver) [
               | inl at ↦ arrives q f j lq m b o goes at
               | inr ne ↦
-                  carried_others other who k vs f j b (λ _ at. ne (at ∙ same_receiver (subst A (is_receiver p k l vs eb hv q f lq (owns_there ws vs (root p q) tables f o) at) m)))
-                  ∙ same q f j lq m b o ∙ sym (carried_others one who k ws f j b (λ _. ne))
+                  carried_others (with_ends p eb) who k vs f j b (λ _ at. ne (at ∙ same_receiver (subst A (is_receiver p k l vs eb hv q f lq (owns_there ws vs (root p q) tables f o) at) m)))
+                  ∙ same q f j lq m b o ∙ sym (carried_others (with_ends p ea) who k ws f j b (λ _. ne))
             ]
             | inr stays ↦
-                carried_others other who k vs f j b (λ e. absurd (true≢false (sym e ∙ stays))) ∙ same q f j lq m b o
-                ∙ sym (carried_others one who k ws f j b (λ e. absurd (true≢false (sym e ∙ stays))))
+                carried_others (with_ends p eb) who k vs f j b (λ e. absurd (true≢false (sym e ∙ stays))) ∙ same q f j lq m b o
+                ∙ sym (carried_others (with_ends p ea) who k ws f j b (λ e. absurd (true≢false (sym e ∙ stays))))
           ]
 
-    pub delivered_alike : (n : ℕ) (ws vs : List ℕ) → n ≤ p.counts.channels → Facts p ea ws → Facts p eb vs → SameWords p A ws vs → SameWords p A (delivered one who n ws) (delivered other who n vs)
+    pub delivered_alike : (n : ℕ) (ws vs : List ℕ) → n ≤ p.counts.channels → Facts p ea ws → Facts p eb vs → SameWords p A ws vs → SameWords p A (delivered (with_ends p ea) who n ws) (delivered (with_ends p eb) who n vs)
     unfolding delivered
     delivered_alike zero ws vs l hw hv same = same
     delivered_alike (suc n) ws vs l hw hv same =
-        carried_alike n (omega arith) (delivered one who n ws) (delivered other who n vs)
-        (delivered_facts one who n ws (omega arith) hw) (delivered_facts other who n vs (omega arith) hv) (delivered_alike n ws vs (omega arith) hw hv same)
+        carried_alike n (omega arith) (delivered (with_ends p ea) who n ws) (delivered (with_ends p eb) who n vs)
+        (delivered_facts (with_ends p ea) who n ws (omega arith) hw) (delivered_facts (with_ends p eb) who n vs (omega arith) hv) (delivered_alike n ws vs (omega arith) hw hv same)

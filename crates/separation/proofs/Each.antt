@@ -4,7 +4,7 @@ use Rattle.checker.specs.declared.Accepted.{Accepted}
 use Rattle.checker.specs.Checked.{checked}
 use Rattle.kernel.specs.Machine.{after_slots}
 use Rattle.separation.specs.Calls.{first}
-use Rattle.separation.specs.Each.{Confinement, MessagesArrive, OnTime, Progresses, StaysAccepted, SwitchesFit, TrueTranslation}
+use Rattle.separation.specs.Each.{Confinement, Execution, MessagesArrive, OnTime, Progresses, StaysAccepted, SwitchesFit, TrueTranslation}
 use Rattle.separation.specs.Promises.{SlotPromises}
 use Rattle.separation.proofs.Calling.{at, whole_run}
 
@@ -28,6 +28,9 @@ confinement bytes words a e k room = (of_slot bytes words a e k room).confined
 
 pub true_translation : TrueTranslation
 true_translation bytes words a e k room = (of_slot bytes words a e k room).translation
+
+pub execution : Execution
+execution bytes words a e k room = (of_slot bytes words a e k room).execution
 
 pub progresses : Progresses
 progresses bytes words a e k room = (of_slot bytes words a e k room).progress

@@ -3,8 +3,6 @@ use Rattle.std.proofs.Common.{◌≡◌, ℕ, ◌*◌, ◌%◌, ◌<◌, ◌≤�
 use Rattle.std.proofs.lemmas.Nat.{mod_below}
 use Rattle.std.proofs.lemmas.Bool.{cases_lt, lt-ltb}
 use Rattle.words.specs.Frames.{lent}
-use Rattle.paging.specs.declared.leaf.Leaf.{Leaf}
-use Rattle.paging.specs.Mapping.{Maps}
 use Rattle.paging.specs.Tables.{Names, Owns}
 use Rattle.paging.proofs.Agree.{leaves_named}
 use Rattle.plan.specs.declared.model.Endpoint.{Endpoint}
@@ -18,10 +16,11 @@ use Rattle.checker.specs.declared.Accepted.{Accepted}
 use Rattle.checker.specs.declared.pages.Ends.{Ends}
 use Rattle.checker.specs.Checked.{checked}
 use Rattle.checker.specs.Found.{Behind, Lawful, Separate, Sound}
-use Rattle.checker.specs.Lawful.{Joins, Leads, Touch, root}
+use Rattle.checker.specs.Lawful.{Joins, Touch, root}
 use Rattle.checker.specs.Pages.{ends_at}
 use Rattle.checker.proofs.Joined.{joins_behind}
 use Rattle.checker.proofs.Judged.{accepted_separate, accepted_sound}
+use Rattle.checker.proofs.Leading.{leads_maps}
 use Rattle.separation.proofs.Frames.{Kept, accepts_kept, maps_kept}
 use Rattle.separation.proofs.Steps.{SoundFrames, sound_kept}
 
@@ -65,27 +64,11 @@ facts_kept p ends ws vs k h = let j = h.joined in record {
   timely = h.timely;
 }
 
--- a page that maps to a leaf leads to it
-leads : (ws : List ℕ) (r page : ℕ) (leaf : Leaf) → Maps ws r page leaf → Leads ws r page leaf
-leads ws r page leaf m = record {
-  high = m.high;
-  low = m.low;
-  table = m.table;
-  high_below = m.high_below;
-  low_below = m.low_below;
-  number = m.number;
-  points = m.points;
-  leads = m.leads;
-  root_there = m.root_there;
-  table_there = m.table_there;
-  frame_below = m.frame_there.below;
-}
-
 module _ (bytes ws : List ℕ) (a : Accepted) (sound : Sound bytes ws a) where
   joins : (k : ℕ) → k < (plan_of bytes).counts.channels → Joins ws (plan_of bytes) k (ends_at a.ends k)
   joins k l = let c = sound.joins k l in record {
-    sender = record { leaf = c.sender.leaf; leads = leads ws _ _ _ c.sender.maps; readable = c.sender.readable; not_writable = λ e. absurd (let z : ◌≡◌ {A = ℕ} 0 1 = cc in omega arith); frame_is = c.sender.frame_is };
-    receiver = record { leaf = c.receiver.leaf; leads = leads ws _ _ _ c.receiver.maps; readable = c.receiver.readable; not_writable = λ e. c.only_read; frame_is = c.receiver.frame_is };
+    sender = record { leaf = c.sender.leaf; leads = (leads_maps ws _ _ _).leads c.sender.maps; readable = c.sender.readable; not_writable = λ e. absurd (let z : ◌≡◌ {A = ℕ} 0 1 = cc in omega arith); frame_is = c.sender.frame_is };
+    receiver = record { leaf = c.receiver.leaf; leads = (leads_maps ws _ _ _).leads c.receiver.maps; readable = c.receiver.readable; not_writable = λ e. c.only_read; frame_is = c.receiver.frame_is };
   }
 
   fit_ends : (k : ℕ) (l : k < (plan_of bytes).counts.channels) → (sound.lawful.pages k l).ends ≡ ends_at a.ends k

@@ -19,6 +19,7 @@ use Rattle.checker.specs.Lawful.{Conflict, Formed, Joins, Leads, Lent, PagesFit,
 use Rattle.checker.specs.Pages.{ends_or_none, no_ends}
 use Rattle.checker.proofs.Joined.{ends_kept}
 use Rattle.checker.proofs.Judged.{accepted_sound, lawful_accepted}
+use Rattle.checker.proofs.Leading.{leads_maps}
 
 -- of one root
 module _ (ws vs : List ℕ) (r : ℕ) (same : SameTables ws vs r) where
@@ -113,19 +114,7 @@ module _ (p : Plan) (ws vs : List ℕ) (kept : Kept p ws vs) where
     }
 
     pub maps_kept : (page : ℕ) (leaf : Leaf) → Maps ws (root p q) page leaf → Maps vs (root p q) page leaf
-    maps_kept page leaf d = record {
-      high = d.high;
-      low = d.low;
-      table = d.table;
-      high_below = d.high_below;
-      low_below = d.low_below;
-      number = d.number;
-      points = rw (same (root p q) d.high (inl refl) d.high_below) d.points;
-      leads = rw (same d.table d.low (inr (record { at = d.high; within = d.high_below; points = d.points })) d.low_below) d.leads;
-      root_there = in_memory _ d.root_there;
-      table_there = in_memory _ d.table_there;
-      frame_there = in_memory _ d.frame_there;
-    }
+    maps_kept page leaf m = (leads_maps vs (root p q) page leaf).maps (leads_kept page leaf ((leads_maps ws (root p q) page leaf).leads m)) (there leaf.frame m.frame_there.lent)
 
   usable_kept : (end : Endpoint) (receives : Bool) (f : ℕ) → end.partition < p.counts.partitions → Usable ws p end receives f → Usable vs p end receives f
   usable_kept end receives f l u = record {

@@ -1,6 +1,6 @@
 -- One slot of a system that runs an accepted plan: every promise.
 use Rattle.std.proofs.Common.{◌≡◌, ℕ, ◌+◌, ◌^◌, ◌<◌, ◌≤◌, true, ◌≢◌, List, length, set, sym, refl, ap, ◌∙◌, subst, add-one, arith}
-use Rattle.std.proofs.lemmas.List.{get_or-set_other, length-set}
+use Rattle.std.proofs.lemmas.List.{get_or-set_other, get_or-set_same, length-set}
 use Rattle.std.proofs.lemmas.Bool.{cond-true, eq-eqb, eqb-true}
 use Rattle.words.specs.Costs.{highest}
 use Rattle.words.specs.Frames.{word}
@@ -9,22 +9,23 @@ use Rattle.tables.specs.Cache.{dirty_at}
 use Rattle.tables.specs.First.{first_tables}
 use Rattle.tables.specs.Honest.{Honest}
 use Rattle.tables.proofs.Truth.{honesty}
-use Rattle.hart.proofs.Agreeing.{agreement}
+use Rattle.paging.proofs.Agree.{leaves_named}
 use Rattle.plan.specs.Rules.{channel, channels_out, leaves}
 use Rattle.plan.specs.Timetable.{begins}
 use Rattle.checker.specs.declared.Accepted.{Accepted}
 use Rattle.checker.specs.Found.{Behind}
 use Rattle.checker.specs.Lawful.{root}
 use Rattle.hart.specs.Execution.{fresh}
-use Rattle.kernel.specs.Machine.{System, after_slot, can_run, coming, ended, entered, inside_after, slot_end, slot_ran, who_runs}
+use Rattle.kernel.specs.Machine.{System, after_slot, can_run, coming, context_of, ended, entered, inside_after, slot_end, slot_ran, who_runs}
+use Rattle.kernel.specs.Inside.{beginning, until}
 use Rattle.kernel.specs.Switch.{delivered, ends_of, switch_work}
 use Rattle.kernel.proofs.Turning.{can}
-use Rattle.separation.specs.Promises.{Confined, KeepsPromises, Messages, Progress, SlotPromises, TranslatesThroughout, runs}
+use Rattle.separation.specs.Promises.{Confined, Executes, GoesOn, KeepsPromises, Messages, Progress, SlotPromises, TranslatesThroughout, runs}
 use Rattle.separation.specs.Running.{BeforeSlot, Running}
 use Rattle.separation.proofs.Carrying.{delivered_kept, delivered_others, delivered_there, is_receiver}
 use Rattle.separation.proofs.Facts.{Facts, accepts_again, facts, facts_kept}
-use Rattle.separation.proofs.Frames.{Kept, kept_more}
-use Rattle.separation.proofs.Steps.{Good, Went, foreign, until_counted, until_least, until_most, until_went}
+use Rattle.separation.proofs.Frames.{Kept, kept_more, names_back}
+use Rattle.separation.proofs.Steps.{Good, Went, foreign, until_counted, until_goes_on, until_least, until_most, until_went}
 
 module _ (bytes : List ℕ) (a : Accepted) (s : System) (before : BeforeSlot bytes a s) where
   pub known : Facts a.plan a.ends s.words
@@ -52,9 +53,23 @@ module _ (bytes : List ℕ) (a : Accepted) (s : System) (before : BeforeSlot byt
   translates : TranslatesThroughout a s
   translates n = let w = went n in record {
     honest = w.good.honest;
-    as_the_manual_says = agreement (inside_after a.plan s n).context (inside_after a.plan s n).tables (inside_after a.plan s n).words (root a.plan (runs a s)) (inside_after a.plan s n).clock w.good.honest;
+    reaches = λ page leaf m.
+        names_back s.words (inside_after a.plan s n).words (root a.plan (runs a s)) (w.kept.tables (runs a s) who_known) leaf.frame
+        (leaves_named (inside_after a.plan s n).words (root a.plan (runs a s)) page leaf m);
     own = λ f j b ne. w.others f j ne b;
   }
+
+  -- the program begins where it was
+  resumes : inside_after a.plan s 0 ≡ beginning (context_of s.machine (runs a s)) first_tables s.words s.machine.clock
+  unfolding inside_after until
+  resumes = ap (λ t. beginning (context_of s.machine (runs a s)) t s.words s.machine.clock) before.tables
+
+  goes_on : (n : ℕ) → GoesOn (root a.plan (runs a s)) (slot_end a.plan s.machine) (inside_after a.plan s n) (inside_after a.plan s (n + 1))
+  unfolding inside_after
+  goes_on n =
+      let r = root a.plan (runs a s) in
+      let stop = slot_end a.plan s.machine in
+      subst (λ k. GoesOn r stop (inside_after a.plan s n) (inside_after a.plan s k)) (sym (add-one n)) (until_goes_on r stop n (entered a.plan s) (went n).good.honest)
 
   -- the slot goes on to its end, and with its switch takes as long as the budget allows
   reached : slot_end a.plan s.machine ≤ (ended a.plan s).clock
@@ -126,6 +141,15 @@ module _ (bytes : List ℕ) (a : Accepted) (s : System) (before : BeforeSlot byt
           none k l (eqb-true (channel a.plan k).sender.partition (runs a s) goes));
     }
 
+    -- what the program that ran has become
+    pub ran_context : (w : ℕ) → w ≡ runs a s → context_of (after_slot a s).machine w ≡ (ended a.plan s).context
+    ran_context w e =
+        let inside : w < length s.machine.contexts = omega (arith, e, who_known, known.timely.few, before.contexts) in
+        rw (contexts_are, sym e) (get_or-set_same s.machine.contexts w (ended a.plan s).context (fresh 0) inside)
+
+    executes : Executes a s (after_slot a s)
+    executes = record { resumes = resumes; goes_on = goes_on; keeps = ran_context (runs a s) refl }
+
     pub confined : (q : ℕ) → q < a.plan.counts.partitions → q ≢ runs a s → Confined a s (after_slot a s) q
     confined q l ne = record {
       context = rw contexts_are (get_or-set_other s.machine.contexts (runs a s) q (ended a.plan s).context (fresh 0) ne);
@@ -160,6 +184,7 @@ module _ (bytes : List ℕ) (a : Accepted) (s : System) (running : Running bytes
     switch = record { reached = reached bytes a s b; past = past bytes a s b; cleared = cleared bytes a s b can_be; fits = fits bytes a s b; next = next bytes a s b can_be };
     messages = messages bytes a s b can_be;
     confined = confined bytes a s b can_be;
+    execution = executes bytes a s b can_be;
     translation = translates bytes a s b;
     progress = progress bytes a s b;
   }

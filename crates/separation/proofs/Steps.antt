@@ -11,6 +11,7 @@ use Rattle.hart.specs.declared.context.State.TheVariants.{Ready, Stopped}
 use Rattle.hart.specs.Core.{stepped}
 use Rattle.hart.specs.Laws.{SameOwn}
 use Rattle.hart.specs.Steps.{Step}
+use Rattle.hart.proofs.Agreeing.{agreement}
 use Rattle.hart.proofs.Honesty.{stays_honest}
 use Rattle.hart.proofs.Own.{sees_own}
 use Rattle.hart.proofs.Stepping.{steps}
@@ -19,7 +20,9 @@ use Rattle.plan.specs.declared.model.Plan.{Plan}
 use Rattle.checker.specs.Found.{Separate}
 use Rattle.checker.specs.Lawful.{root}
 use Rattle.kernel.specs.Inside.{Inside, next, until}
+use Rattle.kernel.proofs.Running.{idles, until_past, until_step}
 use Rattle.separation.specs.Agreement.{SameInside, SameWords}
+use Rattle.separation.specs.Promises.{GoesOn}
 use Rattle.separation.proofs.Frames.{Kept, kernel_back, kept_none, kept_more, kept_lent, names_back, others_kept, owns_back, owns_there}
 
 -- what the checker tells of the frames of a plan's partitions
@@ -40,6 +43,10 @@ sound_kept p ws vs k s = record {
 pub foreign : (p : Plan) (ws : List ℕ) (q who f : ℕ) → Separate ws p → q < p.counts.partitions → who < p.counts.partitions → q ≢ who → Owns ws (root p q) f → Names ws (root p who) f → ⊥
 foreign p ws q who f s lq lw ne (inl kernel) n = s.hidden who q f lw lq n kernel
 foreign p ws q who f s lq lw ne (inr names) n = ne (s.alone q who f lq lw names n)
+
+-- where the words of the members are the same, so are their tables
+pub tables_of : (p : Plan) (A : ℕ → Type 0) (ws vs : List ℕ) → SameWords p A ws vs → (q : ℕ) → q < p.counts.partitions → A q → SameTables ws vs (root p q)
+tables_of p A ws vs same q known member f k kernel l = same q f k known member l (inl kernel)
 
 module _ (p : Plan) (who : ℕ) (kn : who < p.counts.partitions) where
   r : ℕ
@@ -88,7 +95,7 @@ module _ (p : Plan) (who : ℕ) (kn : who < p.counts.partitions) where
   module _ (A : ℕ → Type 0) (member : A who) where
     pub own : (ws vs : List ℕ) → SoundFrames p ws → SoundFrames p vs → SameWords p A ws vs → SameOwn ws vs (root p who)
     own ws vs sw sv same =
-        let tables : SameTables ws vs (root p who) = λ f k o l. same who f k kn member l (inl o) in
+        let tables = tables_of p A ws vs same who kn member in
         record {
           tables = tables;
           lent = λ f o. sv.lent who f kn (owns_there ws vs (root p who) tables f o) ∙ sym (sw.lent who f kn o);
@@ -112,7 +119,7 @@ module _ (p : Plan) (who : ℕ) (kn : who < p.counts.partitions) where
               elim (cases_eq q who) [
                 | inl here ↦ ap (λ z. word z.words f k) e ∙ s.words f k (same.words q f k l m b before)
                 | inr ne ↦
-                    let tables : SameTables x.words y.words (root p q) = λ g j c d. same.words q g j l m d (inl c) in
+                    let tables = tables_of p A x.words y.words same.words q l m in
                     wy.others f k (foreign p y.words q who f gy.sound.separate l kn ne (owns_there x.words y.words (root p q) tables f before)) b
                     ∙ same.words q f k l m b before
                     ∙ sym (wx.others f k (foreign p x.words q who f gx.sound.separate l kn ne before) b)
@@ -131,6 +138,45 @@ module _ (p : Plan) (who : ℕ) (kn : who < p.counts.partitions) where
 module _ (root stop : ℕ) where
   step_of : (x : Inside) → Step x.context x.tables x.words root x.clock
   step_of x = steps x.context x.tables x.words root x.clock
+
+  -- one step more is one at the end, as long as that is not reached
+  until_last : (n : ℕ) (x : Inside) → (until root stop n x).clock < stop → until root stop (suc n) x ≡ next root (until root stop n x)
+  unfolding until
+  until_last zero x l = until_step root stop zero x l
+  until_last (suc n) x l = elim (cases_lt x.clock stop) [
+    | inl b ↦
+        let e = until_step root stop n x b in
+        until_step root stop (suc n) x b ∙ until_last n (next root x) (rw e at l) ∙ ap (next root) (sym e)
+    | inr b ↦ absurd (omega (arith, b, l, ap (λ y. y.clock) (until_past root stop (suc n) x b)))
+  ]
+
+  until_rests : (n : ℕ) (x : Inside) → stop ≤ (until root stop n x).clock → until root stop (suc n) x ≡ until root stop n x
+  unfolding until
+  until_rests zero x l = until_past root stop 1 x l
+  until_rests (suc n) x l = elim (cases_lt x.clock stop) [
+    | inl b ↦
+        let e = until_step root stop n x b in
+        until_step root stop (suc n) x b ∙ until_rests n (next root x) (rw e at l) ∙ sym e
+    | inr b ↦ until_past root stop (suc (suc n)) x b ∙ sym (until_past root stop (suc n) x b)
+  ]
+
+  pub until_goes_on : (n : ℕ) (x : Inside) → Honest (until root stop n x).tables.tlb (until root stop n x).words root → GoesOn root stop (until root stop n x) (until root stop (suc n) x)
+  until_goes_on n x honest =
+      let y = until root stop n x in
+      let same = agreement y.context y.tables y.words root y.clock honest in
+      record {
+        executes = λ l ready. let e = until_last n x l in record {
+          context = ap (λ z. z.context) e ∙ same.context;
+          words = ap (λ z. z.words) e ∙ same.words;
+          tables = ap (λ z. z.tables) e;
+          clock = ap (λ z. z.clock) e;
+          least = omega (arith, ap (λ z. z.clock) e, (step_of y).least);
+          most = omega (arith, ap (λ z. z.clock) e, (step_of y).most);
+          counted = ap (λ z. z.instructions) e ∙ (rw ready);
+        };
+        waits = λ l stopped. until_last n x l ∙ idles root stop y stopped;
+        ends = until_rests n x;
+      }
 
   -- the last instruction may begin in the last cycle
   pub until_most : (n : ℕ) (x : Inside) → x.clock < stop + highest → (until root stop n x).clock < stop + highest

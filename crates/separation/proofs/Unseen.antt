@@ -1,9 +1,7 @@
 -- Noninterference: two systems that agree on a closed set go on agreeing, slot by slot and step by step.
-use Rattle.std.proofs.Common.{◌≡◌, ℕ, zero, suc, ◌+◌, ◌^◌, ◌<◌, true, cond, ◌&&◌, ltb, List, length, Some, None, sym, refl, ap, ◌∙◌, subst, inl, inr, arith}
-use Rattle.std.proofs.lemmas.List.{get_or-set_same}
+use Rattle.std.proofs.Common.{◌≡◌, ℕ, zero, suc, ◌+◌, ◌^◌, ◌<◌, true, cond, ◌&&◌, ltb, List, Some, None, sym, refl, ap, ◌∙◌, subst, inl, inr, arith}
 use Rattle.std.proofs.lemmas.Bool.{cases_Bool, cases_eq}
 use Rattle.words.specs.Frames.{word}
-use Rattle.paging.specs.Tables.{SameTables}
 use Rattle.tables.specs.Honest.{Honest}
 use Rattle.plan.specs.declared.model.Plan.{Plan}
 use Rattle.plan.specs.Timetable.{slot_of}
@@ -13,18 +11,16 @@ use Rattle.checker.specs.Lawful.{root}
 use Rattle.checker.proofs.Judged.{accepted_sound}
 use Rattle.kernel.specs.declared.report.Report.{Report}
 use Rattle.kernel.specs.Inside.{Inside, beginning, until}
-use Rattle.hart.specs.Execution.{fresh}
 use Rattle.kernel.specs.Machine.{System, after_slot, after_slots, can_run, coming, context_of, ended, entered, inside_after, slot_end, who_runs}
 use Rattle.kernel.specs.Reports.{report_of, slot_report}
 use Rattle.kernel.specs.Switch.{delivered}
 use Rattle.separation.specs.Agreement.{Agree, AllBut, In, Noninterference, NotReached, Only, SameInside, SameReport, SameWords, StepByStep, Unseen}
 use Rattle.separation.specs.Flows.{Closed, RowOfFlows, stays, goes_on}
-use Rattle.separation.specs.Promises.{runs}
 use Rattle.separation.specs.Running.{BeforeSlot}
-use Rattle.separation.proofs.Carrying.{delivered_alike}
+use Rattle.separation.proofs.Carrying.{delivered_alike, with_ends}
 use Rattle.separation.proofs.Frames.{owns_back, owns_there}
-use Rattle.separation.proofs.Slots.{before_again, cleared, confined, contexts_are, end_facts, good, known, next, turned, went, who_known, words_are}
-use Rattle.separation.proofs.Steps.{Good, foreign, until_alike}
+use Rattle.separation.proofs.Slots.{before_again, cleared, confined, end_facts, good, known, next, ran_context, turned, went, who_known, words_are}
+use Rattle.separation.proofs.Steps.{Good, foreign, tables_of, until_alike}
 
 -- reports with the same parts
 same_told : (m n who also b c : ℕ) (x y : Inside) → m ≡ n → who ≡ also → b ≡ c → x.clock ≡ y.clock → x.instructions ≡ y.instructions → x.context ≡ y.context →
@@ -33,13 +29,7 @@ same_told : (m n who also b c : ℕ) (x y : Inside) → m ≡ n → who ≡ also
 same_told m n who also b c x y e f g h i j = rw (e, f, g, h, i, j)
 
 module _ (bytes : List ℕ) (p : Plan) (ea eb : List Ends) (A : ℕ → Type 0) (closed : Closed p A) where
-  abbrev one : Accepted
-  one = record { plan = p; ends = ea }
-
-  abbrev other : Accepted
-  other = record { plan = p; ends = eb }
-
-  module _ (s t : System) (rs : BeforeSlot bytes (record { plan = p; ends = ea }) s) (rt : BeforeSlot bytes (record { plan = p; ends = eb }) t) (same : Agree p A s t) where
+  module _ (s t : System) (rs : BeforeSlot bytes (with_ends p ea) s) (rt : BeforeSlot bytes (with_ends p eb) t) (same : Agree p A s t) where
     same_who : who_runs p t.machine ≡ who_runs p s.machine
     same_who = ap (λ n. (slot_of p n).partition) same.turn
 
@@ -58,11 +48,11 @@ module _ (bytes : List ℕ) (p : Plan) (ea eb : List Ends) (A : ℕ → Type 0) 
     unfolding inside_after
     steps member n =
         let w = who_runs p s.machine in
-        let k = who_known bytes one s rs in
+        let k = who_known bytes (with_ends p ea) s rs in
         let x = entered p s in
         let y = beginning (context_of t.machine (who_runs p s.machine)) t.machine.tables t.words t.machine.clock in
-        let gx : Good p (who_runs p s.machine) k x = good bytes one s rs in
-        let gt = good bytes other t rt in
+        let gx : Good p (who_runs p s.machine) k x = good bytes (with_ends p ea) s rs in
+        let gt = good bytes (with_ends p eb) t rt in
         let gy : Good p (who_runs p s.machine) k y = record {
           sound = gt.sound;
           honest = subst (λ v. Honest t.machine.tables.tlb t.words (root p v)) same_who gt.honest;
@@ -83,16 +73,16 @@ module _ (bytes : List ℕ) (p : Plan) (ea eb : List Ends) (A : ℕ → Type 0) 
     end_words : SameWords p A (ended p s).words (ended p t).words
     end_words q f k l m b o2 =
         let n = (coming p s.machine).length in
-        let here = went bytes one s rs (coming p s.machine).length in
-        let there = went bytes other t rt (coming p t.machine).length in
+        let here = went bytes (with_ends p ea) s rs (coming p s.machine).length in
+        let there = went bytes (with_ends p eb) t rt (coming p t.machine).length in
         let before = owns_back s.words (ended p s).words (root p q) (here.kept.tables q l) f o2 in
-        let tables : SameTables s.words t.words (root p q) = λ h i c d. same.words q h i l m d (inl c) in
+        let tables = tables_of p A s.words t.words same.words q l m in
         elim (cases_eq q (who_runs p s.machine)) [
           | inl e ↦ ap (λ x. word x.words f k) same_ended ∙ (steps (subst A e m) n).words q f k l m b o2
           | inr ne ↦
-              there.others f k (foreign p t.words q (who_runs p t.machine) f (known bytes other t rt).frames.separate l (who_known bytes other t rt) (λ e. ne (e ∙ same_who)) (owns_there s.words t.words (root p q) tables f before)) b
+              there.others f k (foreign p t.words q (who_runs p t.machine) f (known bytes (with_ends p eb) t rt).frames.separate l (who_known bytes (with_ends p eb) t rt) (λ e. ne (e ∙ same_who)) (owns_there s.words t.words (root p q) tables f before)) b
               ∙ same.words q f k l m b before
-              ∙ sym (here.others f k (foreign p s.words q (who_runs p s.machine) f (known bytes one s rs).frames.separate l (who_known bytes one s rs) ne before) b)
+              ∙ sym (here.others f k (foreign p s.words q (who_runs p s.machine) f (known bytes (with_ends p ea) s rs).frames.separate l (who_known bytes (with_ends p ea) s rs) ne before) b)
         ]
 
     same_can : can_run p t.machine ≡ can_run p s.machine
@@ -104,37 +94,31 @@ module _ (bytes : List ℕ) (p : Plan) (ea eb : List Ends) (A : ℕ → Type 0) 
       there_able : can_run p t.machine ≡ true
       there_able = same_can ∙ here_able
 
-      -- what the program that ran has become
-      ran_context : (a : Accepted) (u : System) (r : BeforeSlot bytes a u) → can_run a.plan u.machine ≡ true → (w : ℕ) → w ≡ runs a u → context_of (after_slot a u).machine w ≡ (ended a.plan u).context
-      ran_context a u r able w e =
-          let inside : w < length u.machine.contexts = omega (arith, e, who_known bytes a u r, (known bytes a u r).timely.few, r.contexts) in
-          rw (contexts_are bytes a u r able, sym e) (get_or-set_same u.machine.contexts w (ended a.plan u).context (fresh 0) inside)
-
-      contexts : (q : ℕ) → q < p.counts.partitions → A q → context_of (after_slot other t).machine q ≡ context_of (after_slot one s).machine q
+      contexts : (q : ℕ) → q < p.counts.partitions → A q → context_of (after_slot (with_ends p eb) t).machine q ≡ context_of (after_slot (with_ends p ea) s).machine q
       contexts q l m = elim (cases_eq q (who_runs p s.machine)) [
         | inl e ↦
-            ran_context other t rt there_able q (e ∙ sym same_who)
+            ran_context bytes (with_ends p eb) t rt there_able q (e ∙ sym same_who)
             ∙ ap (λ x. x.context) same_ended ∙ (steps (subst A e m) (coming p s.machine).length).context
-            ∙ sym (ran_context one s rs here_able q e)
+            ∙ sym (ran_context bytes (with_ends p ea) s rs here_able q e)
         | inr ne ↦
-            (confined bytes other t rt there_able q l (λ e. ne (e ∙ same_who))).context ∙ same.contexts q l m ∙ sym (confined bytes one s rs here_able q l ne).context
+            (confined bytes (with_ends p eb) t rt there_able q l (λ e. ne (e ∙ same_who))).context ∙ same.contexts q l m ∙ sym (confined bytes (with_ends p ea) s rs here_able q l ne).context
       ]
 
-      words : SameWords p A (after_slot one s).words (after_slot other t).words
+      words : SameWords p A (after_slot (with_ends p ea) s).words (after_slot (with_ends p eb) t).words
       words =
-          let e : (after_slot other t).words ≡ delivered other (who_runs p s.machine) p.counts.channels (ended p t).words =
-          words_are bytes other t rt there_able ∙ ap (λ w. delivered other w p.counts.channels (ended p t).words) same_who in
-          subst (λ z. SameWords p A z (after_slot other t).words) (sym (words_are bytes one s rs here_able))
-          (subst (λ z. SameWords p A (delivered one (who_runs p s.machine) p.counts.channels (ended p s).words) z) (sym e)
-          (delivered_alike p ea eb A closed (who_runs p s.machine) p.counts.channels (ended p s).words (ended p t).words (omega arith) (end_facts bytes one s rs) (end_facts bytes other t rt) end_words))
+          let e : (after_slot (with_ends p eb) t).words ≡ delivered (with_ends p eb) (who_runs p s.machine) p.counts.channels (ended p t).words =
+          words_are bytes (with_ends p eb) t rt there_able ∙ ap (λ w. delivered (with_ends p eb) w p.counts.channels (ended p t).words) same_who in
+          subst (λ z. SameWords p A z (after_slot (with_ends p eb) t).words) (sym (words_are bytes (with_ends p ea) s rs here_able))
+          (subst (λ z. SameWords p A (delivered (with_ends p ea) (who_runs p s.machine) p.counts.channels (ended p s).words) z) (sym e)
+          (delivered_alike p ea eb A closed (who_runs p s.machine) p.counts.channels (ended p s).words (ended p t).words (omega arith) (end_facts bytes (with_ends p ea) s rs) (end_facts bytes (with_ends p eb) t rt) end_words))
 
-      ran_alike : Agree p A (after_slot one s) (after_slot other t)
+      ran_alike : Agree p A (after_slot (with_ends p ea) s) (after_slot (with_ends p eb) t)
       ran_alike = record {
         contexts = contexts;
         words = words;
-        tables = cleared bytes other t rt there_able ∙ sym (cleared bytes one s rs here_able);
-        clock = omega (arith, next bytes other t rt there_able, next bytes one s rs here_able, same_end);
-        turn = omega (arith, turned bytes other t rt there_able, turned bytes one s rs here_able, same.turn);
+        tables = cleared bytes (with_ends p eb) t rt there_able ∙ sym (cleared bytes (with_ends p ea) s rs here_able);
+        clock = omega (arith, next bytes (with_ends p eb) t rt there_able, next bytes (with_ends p ea) s rs here_able, same_end);
+        turn = omega (arith, turned bytes (with_ends p eb) t rt there_able, turned bytes (with_ends p ea) s rs here_able, same.turn);
       }
 
     reports : SameReport p A s t
@@ -148,37 +132,37 @@ module _ (bytes : List ℕ) (p : Plan) (ea eb : List Ends) (A : ℕ → Type 0) 
         ap (λ c. cond c (Some (report_of p t (ended p t))) None) same_can ∙ ap (λ r. cond (can_run p s.machine) (Some r) None) told
 
     record Both : Type 0 where
-      here : BeforeSlot bytes (record { plan = p; ends = ea }) (after_slot (record { plan = p; ends = ea }) s)
-      there : BeforeSlot bytes (record { plan = p; ends = eb }) (after_slot (record { plan = p; ends = eb }) t)
-      agree : Agree p A (after_slot (record { plan = p; ends = ea }) s) (after_slot (record { plan = p; ends = eb }) t)
+      here : BeforeSlot bytes (with_ends p ea) (after_slot (with_ends p ea) s)
+      there : BeforeSlot bytes (with_ends p eb) (after_slot (with_ends p eb) t)
+      agree : Agree p A (after_slot (with_ends p ea) s) (after_slot (with_ends p eb) t)
 
     both : Both
     unfolding after_slot
     both = elim (cases_Bool (can_run p s.machine)) [
-      | inl e ↦ record { here = before_again bytes one s rs e; there = before_again bytes other t rt (there_able e); agree = ran_alike e }
+      | inl e ↦ record { here = before_again bytes (with_ends p ea) s rs e; there = before_again bytes (with_ends p eb) t rt (there_able e); agree = ran_alike e }
       | inr e ↦ (let d = same_can ∙ e in record { here = rw e rs; there = rw d rt; agree = rw (e, d) same })
     ]
 
   -- any number of slots
   record After (n : ℕ) (s t : System) : Type 0 where
-    here : BeforeSlot bytes (record { plan = p; ends = ea }) (after_slots (record { plan = p; ends = ea }) n s)
-    there : BeforeSlot bytes (record { plan = p; ends = eb }) (after_slots (record { plan = p; ends = eb }) n t)
-    agree : Agree p A (after_slots (record { plan = p; ends = ea }) n s) (after_slots (record { plan = p; ends = eb }) n t)
+    here : BeforeSlot bytes (with_ends p ea) (after_slots (with_ends p ea) n s)
+    there : BeforeSlot bytes (with_ends p eb) (after_slots (with_ends p eb) n t)
+    agree : Agree p A (after_slots (with_ends p ea) n s) (after_slots (with_ends p eb) n t)
 
-  after : (n : ℕ) (s t : System) → BeforeSlot bytes (record { plan = p; ends = ea }) s → BeforeSlot bytes (record { plan = p; ends = eb }) t → Agree p A s t → After n s t
+  after : (n : ℕ) (s t : System) → BeforeSlot bytes (with_ends p ea) s → BeforeSlot bytes (with_ends p eb) t → Agree p A s t → After n s t
   unfolding after_slots
   after zero s t rs rt same = record { here = rs; there = rt; agree = same }
   after (suc n) s t rs rt same =
       let z = after n s t rs rt same in
-      let b = both (after_slots one n s) (after_slots other n t) z.here z.there z.agree in
+      let b = both (after_slots (with_ends p ea) n s) (after_slots (with_ends p eb) n t) z.here z.there z.agree in
       record { here = b.here; there = b.there; agree = b.agree }
 
-  pub unseen : (s t : System) → BeforeSlot bytes (record { plan = p; ends = ea }) s → BeforeSlot bytes (record { plan = p; ends = eb }) t → Agree p A s t →
-      Unseen p A (record { plan = p; ends = ea }) (record { plan = p; ends = eb }) s t
+  pub unseen : (s t : System) → BeforeSlot bytes (with_ends p ea) s → BeforeSlot bytes (with_ends p eb) t → Agree p A s t →
+      Unseen p A (with_ends p ea) (with_ends p eb) s t
   unseen s t rs rt same = record {
     slots = λ n. (after n s t rs rt same).agree;
-    steps = λ n. (let z = after n s t rs rt same in steps (after_slots one n s) (after_slots other n t) z.here z.there z.agree);
-    reports = λ n. (let z = after n s t rs rt same in reports (after_slots one n s) (after_slots other n t) z.here z.there z.agree);
+    steps = λ n. (let z = after n s t rs rt same in steps (after_slots (with_ends p ea) n s) (after_slots (with_ends p eb) n t) z.here z.there z.agree);
+    reports = λ n. (let z = after n s t rs rt same in reports (after_slots (with_ends p ea) n s) (after_slots (with_ends p eb) n t) z.here z.there z.agree);
   }
 
 -- one plan: what both systems were accepted with

@@ -37,7 +37,8 @@ pub record Starts (bytes words : List ℕ) (r : Result Kernel Refusal) : Type 0 
 abbrev pub SlotKeeps : Accepted → System → System → Type 0
 SlotKeeps a s t = (bytes : List ℕ) → Running bytes a s → s.machine.turn + 1 < 2 ^ 32 → SlotPromises bytes a s t
 
--- and is unseen by any closed set: whatever other system agrees with this one on the set agrees with it after the slot, and in each step of a member
+-- and what happens outside of a closed set is unseen by it: whatever other system agrees with this one on the set agrees with it after the slot,
+-- and in each step of a member
 abbrev pub SlotUnseen : Accepted → System → System → Type 0
 SlotUnseen a s t =
     (bytes : List ℕ) (b : Accepted) (A : ℕ → Bool) (u : System) → Closed a.plan (In A) → BeforeSlot bytes a s → BeforeSlot bytes b u → Agree a.plan (In A) s u →

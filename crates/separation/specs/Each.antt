@@ -6,7 +6,7 @@ use Rattle.checker.specs.Checked.{checked}
 use Rattle.kernel.specs.Machine.{System, after_slots}
 use Rattle.separation.specs.Agreement.{Agree, In, SameWords}
 use Rattle.separation.specs.Calls.{first}
-use Rattle.separation.specs.Promises.{Confined, Messages, Progress, Switches, TranslatesThroughout, runs}
+use Rattle.separation.specs.Promises.{Confined, Executes, Messages, Progress, Switches, TranslatesThroughout, runs}
 
 -- of every slot of every run: the accepted plan, the system before the slot, and the one after its switch
 abbrev pub InEverySlot : (Accepted → System → System → Type 0) → Type 0
@@ -33,6 +33,9 @@ Confinement = InEverySlot (λ a s t. (q : ℕ) → q < a.plan.counts.partitions 
 
 abbrev pub TrueTranslation : Type 0
 TrueTranslation = InEverySlot (λ a s t. TranslatesThroughout a s)
+
+abbrev pub Execution : Type 0
+Execution = InEverySlot Executes
 
 abbrev pub Progresses : Type 0
 Progresses = InEverySlot (λ a s t. Progress a s)

@@ -1,16 +1,21 @@
 -- What is promised of every slot of an accepted plan, with any programs.
-use Rattle.std.specs.Prelude.{◌≡◌, ℕ, ◌+◌, ◌/◌, ◌^◌, ◌<◌, ◌≤◌, ◌≢◌, List}
+use Rattle.std.specs.Prelude.{◌≡◌, ℕ, ◌+◌, ◌/◌, ◌^◌, ◌<◌, ◌≤◌, true, false, ◌≢◌, List}
 use Rattle.words.specs.Costs.{highest}
 use Rattle.words.specs.Frames.{word}
+use Rattle.paging.specs.declared.leaf.Leaf.{Leaf}
+use Rattle.paging.specs.Mapping.{Maps}
 use Rattle.paging.specs.Tables.{Names, Owns}
 use Rattle.tables.specs.First.{first_tables}
 use Rattle.tables.specs.Honest.{Honest}
 use Rattle.hart.specs.declared.context.State.TheVariants.{Ready}
-use Rattle.hart.specs.Laws.{Agrees}
+use Rattle.hart.specs.Architecture.{architecture}
+use Rattle.hart.specs.Core.{stepped}
+use Rattle.hart.specs.Execution.{is_ready}
 use Rattle.plan.specs.Rules.{channel}
 use Rattle.checker.specs.declared.Accepted.{Accepted}
 use Rattle.checker.specs.Found.{Behind}
 use Rattle.checker.specs.Lawful.{root}
+use Rattle.kernel.specs.Inside.{Inside, beginning}
 use Rattle.kernel.specs.Machine.{System, after_slot, coming, context_of, ended, inside_after, slot_end, who_runs}
 use Rattle.kernel.specs.Switch.{ends_of, switch_work}
 use Rattle.separation.specs.Running.{Running}
@@ -47,11 +52,35 @@ pub record Confined (a : Accepted) (s t : System) (q : ℕ) : Type 0 where
       Behind s.words a.plan (channel a.plan k).receiver f → ⊥) →
       word t.words f j ≡ word s.words f j
 
--- after any number of steps of the slot: every entry of the TLB is what a walk would answer, the next step does what the architecture does, which knows no tables,
--- and no word has changed but in frames that the tables of the running partition name
+-- an instruction at a reading of the clock does to registers, counter, state and words what the architecture does, which knows no tables. It leaves the tables that the
+-- core leaves and takes the core's cycles, one at least and the highest cost at most, and it is counted
+pub record OneInstruction (root : ℕ) (x y : Inside) : Type 0 where
+  pub context : y.context ≡ (architecture x.context x.words root x.clock).context
+  pub words : y.words ≡ (architecture x.context x.words root x.clock).words
+  pub tables : y.tables ≡ (stepped x.context x.tables x.words root x.clock).tables
+  pub clock : y.clock ≡ x.clock + (stepped x.context x.tables x.words root x.clock).cost
+  pub least : x.clock < y.clock
+  pub most : y.clock ≤ x.clock + highest
+  pub counted : y.instructions ≡ x.instructions + 1
+
+-- one step: before the slot's end a program that is ready begins an instruction, and a stopped one waits for a cycle; from the end on nothing happens
+pub record GoesOn (root stop : ℕ) (x y : Inside) : Type 0 where
+  pub executes : x.clock < stop → is_ready x.context.state ≡ true → OneInstruction root x y
+  pub waits : x.clock < stop → is_ready x.context.state ≡ false → y ≡ record x { clock = x.clock + 1 }
+  pub ends : stop ≤ x.clock → y ≡ x
+
+-- the program whose slot it is begins with the registers, the counter and the state that it had, with the words and the clock as they are and with the tables in
+-- their first state. It goes on step by step, and what it has at the slot's end it keeps
+pub record Executes (a : Accepted) (s t : System) : Type 0 where
+  pub resumes : inside_after a.plan s 0 ≡ beginning (context_of s.machine (runs a s)) first_tables s.words s.machine.clock
+  pub goes_on : (n : ℕ) → GoesOn (root a.plan (runs a s)) (slot_end a.plan s.machine) (inside_after a.plan s n) (inside_after a.plan s (n + 1))
+  pub keeps : context_of t.machine (runs a s) ≡ (ended a.plan s).context
+
+-- after any number of steps of the slot: every entry of the TLB is what a walk would answer, every page of the running partition leads to a frame that its tables
+-- named when the slot began, and no word has changed but in such frames
 pub record Translates (a : Accepted) (s : System) (n : ℕ) : Type 0 where
   pub honest : Honest (inside_after a.plan s n).tables.tlb (inside_after a.plan s n).words (root a.plan (runs a s))
-  pub as_the_manual_says : Agrees (inside_after a.plan s n).context (inside_after a.plan s n).tables (inside_after a.plan s n).words (root a.plan (runs a s)) (inside_after a.plan s n).clock
+  pub reaches : (page : ℕ) (leaf : Leaf) → Maps (inside_after a.plan s n).words (root a.plan (runs a s)) page leaf → Names s.words (root a.plan (runs a s)) leaf.frame
   pub own : (f j : ℕ) → j < 1024 → (Names s.words (root a.plan (runs a s)) f → ⊥) → word (inside_after a.plan s n).words f j ≡ word s.words f j
 
 abbrev pub TranslatesThroughout : Accepted → System → Type 0
@@ -69,6 +98,7 @@ pub record SlotPromises (bytes : List ℕ) (a : Accepted) (s t : System) : Type 
   pub switch : Switches a s t
   pub messages : Messages a s t
   pub confined : (q : ℕ) → q < a.plan.counts.partitions → q ≢ runs a s → Confined a s t q
+  pub execution : Executes a s t
   pub translation : TranslatesThroughout a s
   pub progress : Progress a s
 

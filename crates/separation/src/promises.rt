@@ -1,6 +1,6 @@
 // Every promise by itself. These functions do nothing: they owe the theorems in their contracts.
 ghost use Rattle.separation.specs.Agreement.{Noninterference, NotReached};
-ghost use Rattle.separation.specs.Each.{Confinement, LoadsAlike, MessagesArrive, OnTime, Progresses, StaysAccepted, SwitchesFit, TrueTranslation};
+ghost use Rattle.separation.specs.Each.{Confinement, Execution, LoadsAlike, MessagesArrive, OnTime, Progresses, StaysAccepted, SwitchesFit, TrueTranslation};
 ghost use Rattle.separation.specs.Promises.{KeepsPromises};
 
 // Every slot begins at the clock that the plan alone gives.
@@ -21,6 +21,11 @@ pub fn messages()
 // A partition's words, registers and state change only in its own slots and by messages to it.
 pub fn confinement()
     ensures { Confinement }
+{}
+
+// A program goes on where it was, each step does what the architecture does, and what it has at the slot's end it keeps.
+pub fn execution()
+    ensures { Execution }
 {}
 
 // At all times of a run every entry of the TLB is what a walk would answer.

@@ -1,6 +1,5 @@
 -- Two systems that agree on the first partition and differ elsewhere.
-use Rattle.std.proofs.Common.{◌≡◌, ℕ, ◌*◌, ◌/◌, ◌%◌, ◌<◌, length, sym, refl, ap, ◌∙◌, subst, inl, inr, arith}
-use Rattle.std.proofs.lemmas.List.FromFn.{length-map-range_with_len}
+use Rattle.std.proofs.Common.{◌≡◌, ℕ, ◌<◌, sym, refl, ap, ◌∙◌, subst, inl, inr, arith}
 use Rattle.std.proofs.lemmas.Bool.{cases_eq, eq-eqb, eqb-true}
 use Rattle.words.specs.Frames.{word}
 use Rattle.paging.specs.Laws.{SameWay}
@@ -17,21 +16,14 @@ use Rattle.separation.proofs.Calling.{running_first}
 use Rattle.separation.proofs.Facts.{Facts, facts}
 use Rattle.separation.proofs.Steps.{own}
 use Rattle.separation.proofs.Unseen.{unseen_by}
-use Rattle.sample.specs.Memory.{Layout, memory, two, word_in}
+use Rattle.sample.specs.Memory.{memory, two}
 use Rattle.sample.specs.Verdicts.{here, there}
+use Rattle.sample.proofs.Laid.{long}
 use Rattle.sample.proofs.Pair.{agrees, differs}
-use Rattle.sample.proofs.Verdicts.{examples, here_fits, there_fits}
+use Rattle.sample.proofs.Verdicts.{channels_1, examples, here_fits, there_fits}
 use Rattle.witness.specs.Pair.{Pair, Pairs, first_alone, plan_in, system_in}
 
-long : (l : Layout) (content : ℕ → ℕ → ℕ) → length (memory l content) ≡ l.frames * 1024
-unfolding memory
-long l content = length-map-range_with_len (λ i. word_in l content (i / 1024) (i % 1024)) 0 (l.frames * 1024)
-
 -- the one channel leads to the second partition
-one_channel : (plan_of two).counts.channels ≡ 1
-unfolding plan_of
-one_channel = refl
-
 to_second : (channel (plan_of two) 0).receiver.partition ≡ 1
 unfolding plan_of rows
 to_second = refl
@@ -52,7 +44,7 @@ two_partitions = refl
 leads_nowhere : (r : ℕ) → RowOfFlows (plan_of two) 1 r → r ≡ 1
 leads_nowhere r stays = refl
 leads_nowhere r (goes_on q t row flow) =
-    let k : flow.number ≡ 0 = omega (arith, flow.exists, one_channel) in
+    let k : flow.number ≡ 0 = omega (arith, flow.exists, channels_1) in
     sym flow.receives ∙ ap (λ i. (channel (plan_of two) i).receiver.partition) k ∙ to_second
 
 no_row : RowOfFlows (plan_of two) 1 0 → ⊥
@@ -68,7 +60,7 @@ is_first q l m = elim (cases_eq q 0) [
 closed : Closed (plan_of two) (In first_alone)
 closed q r flow m =
     let e = eqb-true r 0 m in
-    let k : flow.number ≡ 0 = omega (arith, flow.exists, one_channel) in
+    let k : flow.number ≡ 0 = omega (arith, flow.exists, channels_1) in
     absurd (omega (arith, e, flow.receives, to_second, ap (λ i. (channel (plan_of two) i).receiver.partition) k))
 
 module _ (content other : ℕ → ℕ → ℕ) (code : (k : ℕ) → other 2 k ≡ content 2 k) (data_same : (k : ℕ) → other 6 k ≡ content 6 k) where
@@ -128,7 +120,7 @@ module _ (content other : ℕ → ℕ → ℕ) (code : (k : ℕ) → other 2 k �
     agree = agree;
     tables_differ = differs content other;
     lent_differ = λ e. omega (arith, long here content, long there other, e);
-    flow = record { number = 0; exists = omega (arith, one_channel); sends = from_first; receives = to_second };
+    flow = record { number = 0; exists = omega (arith, channels_1); sends = from_first; receives = to_second };
     no_row = no_row;
     others_agree = others_agree;
     apart = apart;

@@ -1,6 +1,7 @@
 // A plan that runs: two systems that agree on one partition and differ elsewhere, and two programs with their first slots.
 #![tactic(auto)]
 
+ghost use Rattle.witness.specs.Lines.{Lines};
 ghost use Rattle.witness.specs.Pair.{Pairs};
 ghost use Rattle.witness.specs.Programs.{FirstSlots, OtherProgram};
 
@@ -8,4 +9,5 @@ pub fn laws()
     ensures pairs { Pairs }
     ensures slots { FirstSlots }
     ensures other { OtherProgram }
+    ensures lines { Lines }
 {}

@@ -1,0 +1,20 @@
+-- The lines of the first slots, computed.
+use Rattle.std.proofs.Common.{refl}
+use Rattle.std.specs.Fmt.{digits}
+use Rattle.words.specs.First.{any, count, first, most}
+use Rattle.paging.specs.Entries.{flag}
+use Rattle.paging.specs.Walks.{walked}
+use Rattle.tables.specs.Tlb.{found, filled}
+use Rattle.plan.specs.Format.{plan_of, rows}
+use Rattle.checker.specs.Pages.{behind, end_frame, ends_or_none, looked_up}
+use Rattle.hart.specs.Core.{executed, fetch_ran, load_ran, stepped, store_ran, word_ran}
+use Rattle.kernel.specs.Inside.{until}
+use Rattle.kernel.specs.Machine.{after_slot, after_slots, inside_after, slot_ran}
+use Rattle.kernel.specs.Reports.{slot_report}
+use Rattle.kernel.specs.Switch.{carried, delivered}
+use Rattle.sample.specs.Memory.{memory}
+use Rattle.witness.specs.Lines.{Lines}
+
+pub lines : Lines
+unfolding digits any count first most flag walked found filled plan_of rows behind end_frame ends_or_none looked_up executed fetch_ran load_ran stepped store_ran word_ran until after_slot after_slots inside_after slot_ran slot_report carried delivered memory
+lines = record { first = refl; second = refl; third = refl; stopped = refl }
