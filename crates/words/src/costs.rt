@@ -28,7 +28,7 @@ pub const SWITCH: u32 = HIGHEST - 1 + CACHE_LINES * WRITE_BACK;
 // The cost of a message: one frame.
 pub const MESSAGE: u32 = FRAME_WORDS as u32 * COPIED_WORD;
 
-// What an event costs.
+// What costs something. `Event` and `cost_of` are only there to tie each constant above to the definition of the same cost: no contract speaks of a constant itself.
 #[derive(Clone, Copy)]
 pub enum Event {
     Instruction,
