@@ -1,8 +1,7 @@
 -- Memories that agree on a walk's way, and what follows for whole tables.
 use Rattle.std.proofs.Common.{◌≡◌, ℕ, ◌+◌, ◌*◌, ◌<◌, List, Some, None, Option, sym, refl, ◌∙◌, subst, inl, inr, arith}
-use Rattle.std.proofs.lemmas.Bool.Decides.{nat_tests}
 use Rattle.words.specs.Frames.{lent, word, written}
-use Rattle.words.proofs.Frame.{reads_back}
+use Rattle.words.proofs.Frame.{lends, reads_back}
 use Rattle.paging.specs.declared.leaf.Leaf.{Leaf}
 use Rattle.paging.specs.Walks.{walked}
 use Rattle.paging.specs.Mapping.{InMemory, Pointer, Maps}
@@ -33,7 +32,7 @@ same_answers None (Some y) there back = back y refl
 same_answers None None there back = refl
 
 carried : (ws vs : List ℕ) (frame : ℕ) → lent vs frame ≡ lent ws frame → InMemory ws frame → InMemory vs frame
-carried ws vs frame same m = record { below = m.below; lent = grind (arith, nat_tests) }
+carried ws vs frame same m = record { below = m.below; lent = (lends vs frame).0 (same ∙ (lends ws frame).1 m.lent) }
 
 -- what maps in one memory maps in another that agrees on its way
 maps_there : (ws vs : List ℕ) (root page : ℕ) (leaf : Leaf) (m : Maps ws root page leaf) → SameWay ws vs root m.high m.low → Maps vs root page leaf
