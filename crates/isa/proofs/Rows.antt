@@ -1,5 +1,6 @@
 -- Rows of a table, and the numbers that find them.
 use Rattle.std.proofs.Common.{◌≡◌, ℕ, ◌^◌, ◌<◌, List, [], ◌∷◌, Some, None, Option, rules}
+use Rattle.std.proofs.lemmas.Option.{none-some}
 use Rattle.std.specs.Option.{option_and_then}
 use Rattle.isa.specs.declared.instruction.Operation.{Operation}
 use Rattle.isa.specs.declared.instruction.Condition.{Condition}
@@ -8,12 +9,6 @@ use Rattle.isa.specs.declared.instruction.StoreWidth.{StoreWidth}
 use Rattle.isa.specs.declared.instruction.Counter.{Counter}
 use Rattle.isa.specs.Tables.{numbered, Listed, condition_number, conditions, load_number, loads, store_number, stores, operation_number, operations, funct3_of, funct7_of, constants, shifts, counter_number, counters}
 
-pub some_is : {A : Type 0} {a b : A} → Some a ≡ Some b → a ≡ b
-some_is e = cc
-
-pub none_is : {A : Type 0} {Q : Type 0} {a : A} → None ≡ Some a → Q
-none_is e = absurd (cc)
-
 -- what follows from a row comes from a row
 pub and_some : {A B : Type 0} (o : Option A) (f : A → Option B) (b : B) → option_and_then f o ≡ Some b → (a : A) × (o ≡ Some a) × (f a ≡ Some b)
 and_some o f b e = search rules
@@ -21,7 +16,7 @@ and_some o f b e = search rules
 module _ {A : Type 0} (number : A → ℕ) where
   -- a row that is found has its number
   pub found : (rows : List A) (n : ℕ) (a : A) → numbered number rows n ≡ Some a → n ≡ number a
-  found [] n a e = none_is e
+  found [] n a e = absurd (none-some a e)
   found (r ∷ rows) n a e = search (rules, found rows n a)
 
   -- the same number finds the same

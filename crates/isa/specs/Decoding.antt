@@ -5,10 +5,10 @@ use Rattle.words.specs.Bits.{field}
 use Rattle.isa.specs.declared.instruction.Instruction.{Instruction}
 use Rattle.isa.specs.declared.instruction.Instruction.TheVariants.{Lui, Auipc, Jal, Jalr, Branch, Load, Store, RegisterImmediate, RegisterRegister, ReadCounter}
 use Rattle.isa.specs.Formats.{opcode, rd, funct3, rs1, rs2, funct7, i_immediate, s_immediate, b_immediate, u_immediate, j_immediate}
-use Rattle.isa.specs.Tables.{numbered, Major, opcode_of, majors, condition_number, conditions, load_number, loads, store_number, stores, operation_number, operations, funct3_of, constants, shifts, counter_number, counters, read_and_set}
+use Rattle.isa.specs.Tables.{numbered, Major, opcode_of, majors, condition_number, conditions, jalr_number, load_number, loads, store_number, stores, operation_number, operations, funct3_of, constants, shifts, counter_number, counters, read_and_set, no_source}
 
 abbrev pub jalr : ℕ → Option Instruction
-jalr w = cond (funct3 w == 0) (Some (Jalr (rd w) (rs1 w) (i_immediate w))) None
+jalr w = cond (funct3 w == jalr_number) (Some (Jalr (rd w) (rs1 w) (i_immediate w))) None
 
 abbrev pub branch : ℕ → Option Instruction
 branch w = option_and_then (λ c. Some (Branch c (rs1 w) (rs2 w) (b_immediate w))) (numbered condition_number conditions (funct3 w))
@@ -34,7 +34,7 @@ register_register w =
 -- CSRRS of a counter from register 0
 abbrev pub read_counter : ℕ → Option Instruction
 read_counter w =
-    cond (funct3 w == read_and_set && field w 15 5 == 0)
+    cond (funct3 w == read_and_set && field w 15 5 == no_source)
     (option_and_then (λ k. Some (ReadCounter (rd w) k)) (numbered counter_number counters (field w 20 12)))
     None
 

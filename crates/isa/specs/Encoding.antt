@@ -4,13 +4,13 @@ use Rattle.isa.specs.declared.instruction.Instruction.{Instruction}
 use Rattle.isa.specs.declared.instruction.Instruction.TheVariants.{Lui, Auipc, Jal, Jalr, Branch, Load, Store, RegisterImmediate, RegisterRegister, ReadCounter}
 use Rattle.isa.specs.Formats.{r_format, i_format, s_format, b_format, u_format, j_format}
 use Rattle.isa.specs.Meaning.{remainder}
-use Rattle.isa.specs.Tables.{Listed, Major, opcode_of, condition_number, load_number, store_number, operation_number, funct3_of, funct7_of, constants, shifts, counter_number, read_and_set}
+use Rattle.isa.specs.Tables.{Listed, Major, opcode_of, condition_number, jalr_number, load_number, store_number, operation_number, funct3_of, funct7_of, constants, shifts, counter_number, read_and_set, no_source}
 
 abbrev pub encoding : Instruction → ℕ
 encoding (Lui rd value) = u_format (remainder 32 value) rd.index (opcode_of Major.LUI)
 encoding (Auipc rd value) = u_format (remainder 32 value) rd.index (opcode_of Major.AUIPC)
 encoding (Jal rd offset) = j_format (remainder 21 offset) rd.index (opcode_of Major.JAL)
-encoding (Jalr rd base offset) = i_format (remainder 12 offset) base.index 0 rd.index (opcode_of Major.JALR)
+encoding (Jalr rd base offset) = i_format (remainder 12 offset) base.index jalr_number rd.index (opcode_of Major.JALR)
 encoding (Branch condition left right offset) =
     b_format (remainder 13 offset) right.index left.index (condition_number condition) (opcode_of Major.BRANCH)
 encoding (Load width rd base offset) = i_format (remainder 12 offset) base.index (load_number width) rd.index (opcode_of Major.LOAD)
@@ -21,7 +21,7 @@ encoding (RegisterImmediate operation rd source value) =
     i_format (funct7_of operation * 2 ^ 5 + remainder 12 value) source.index (funct3_of operation) rd.index (opcode_of Major.OPIMM)
 encoding (RegisterRegister operation rd left right) =
     r_format (funct7_of operation) right.index left.index (funct3_of operation) rd.index (opcode_of Major.OP)
-encoding (ReadCounter rd counter) = i_format (counter_number counter) 0 read_and_set rd.index (opcode_of Major.SYSTEM)
+encoding (ReadCounter rd counter) = i_format (counter_number counter) no_source read_and_set rd.index (opcode_of Major.SYSTEM)
 
 -- a number that `width` bits can hold in two's complement
 abbrev pub Within : ℕ → ℤ → Type 0

@@ -1,9 +1,11 @@
 -- What decoding, the registers and the operations come to.
-use Rattle.std.specs.Prelude.{◌≡◌, ℕ, ◌^◌, ◌<◌, ◌≤◌, ◌≢◌, pos, ◌+ℤ◌, ◌*ℤ◌, ◌≤ℤ◌, ◌<ℤ◌, Some, None, Decides}
+use Rattle.std.specs.Prelude.{◌≡◌, ℕ, ◌+◌, ◌-◌, ◌%◌, ◌^◌, ◌<◌, ◌≤◌, min, max, ◌≢◌, ◌⊎◌, pos, ◌+ℤ◌, ◌*ℤ◌, ◌≤ℤ◌, ◌<ℤ◌, Some, None, Decides}
+use Rattle.std.specs.Int.{bit_at}
 use Rattle.words.specs.Bits.{signed}
 use Rattle.isa.specs.declared.register.Register.{Register}
 use Rattle.isa.specs.declared.register.Registers.{Registers}
-use Rattle.isa.specs.declared.instruction.Operation.TheVariants.{Add, Sub, LessThan, LessThanUnsigned, ShiftRightArithmetic}
+use Rattle.isa.specs.declared.instruction.Operation.{Operation}
+use Rattle.isa.specs.declared.instruction.Operation.TheVariants.{Add, Sub, ShiftLeft, LessThan, LessThanUnsigned, Xor, ShiftRight, ShiftRightArithmetic, Or, And}
 use Rattle.isa.specs.declared.instruction.Condition.TheVariants.{Equal, NotEqual, Less, GreaterEqual, LessUnsigned, GreaterEqualUnsigned}
 use Rattle.isa.specs.declared.instruction.Instruction.{Instruction}
 use Rattle.isa.specs.Registers.{register, blank, held, written}
@@ -50,9 +52,48 @@ pub record Writing (rs : Registers) (r : Register) (value : ℕ) : Type 0 where
 abbrev pub Writes : Type 0
 Writes = (rs : Registers) (r : Register) (value : ℕ) → Writing rs r value
 
+-- what an operation computes of two words is a word
+abbrev pub GivesWords : Type 0
+GivesWords = (o : Operation) (a b : ℕ) → a < 2 ^ 32 → b < 2 ^ 32 → computed o a b < 2 ^ 32
+
+-- ADD is the sum or 2 ^ 32 below it, SUB the difference or 2 ^ 32 above it
+pub record Wraps (a b : ℕ) : Type 0 where
+  pub sum : (computed Add a b ≡ a + b) ⊎ (computed Add a b + 2 ^ 32 ≡ a + b)
+  pub difference : (computed Sub a b + b ≡ a) ⊎ (computed Sub a b + b ≡ a + 2 ^ 32)
+
+abbrev pub Adds : Type 0
+Adds = (a b : ℕ) → a < 2 ^ 32 → b < 2 ^ 32 → Wraps a b
+
 -- SUB undoes ADD, and ADD undoes SUB
 abbrev pub Undoes : Type 0
 Undoes = (a b : ℕ) → a < 2 ^ 32 → b < 2 ^ 32 → (computed Sub (computed Add a b) b ≡ a) × (computed Add (computed Sub a b) b ≡ a)
+
+-- XOR, OR and AND take each bit by itself: it is 1 where exactly one of the two is, where at least one is, where both are
+pub record BitByBit (a b i : ℕ) : Type 0 where
+  pub xor : bit_at (computed Xor a b) i ≡ (bit_at a i + bit_at b i) % 2
+  pub or : bit_at (computed Or a b) i ≡ max (bit_at a i) (bit_at b i)
+  pub and : bit_at (computed And a b) i ≡ min (bit_at a i) (bit_at b i)
+
+abbrev pub Bitwise : Type 0
+Bitwise = (a b i : ℕ) → BitByBit a b i
+
+-- SLL by k moves every bit k places up, with 0 below them, and SRL moves every bit k places down
+pub record Moved (a k i : ℕ) : Type 0 where
+  pub below : i < k → bit_at (computed ShiftLeft a k) i ≡ 0
+  pub up : k ≤ i → bit_at (computed ShiftLeft a k) i ≡ bit_at a (i - k)
+  pub down : bit_at (computed ShiftRight a k) i ≡ bit_at a (i + k)
+
+abbrev pub Moves : Type 0
+Moves = (a k i : ℕ) → k < 32 → i < 32 → Moved a k i
+
+-- a shift is by the low five bits of its second operand
+pub record LowFive (a b : ℕ) : Type 0 where
+  pub sll : computed ShiftLeft a b ≡ computed ShiftLeft a (b % 32)
+  pub srl : computed ShiftRight a b ≡ computed ShiftRight a (b % 32)
+  pub sra : computed ShiftRightArithmetic a b ≡ computed ShiftRightArithmetic a (b % 32)
+
+abbrev pub ShiftsByFive : Type 0
+ShiftsByFive = (a b : ℕ) → LowFive a b
 
 -- SLT and SLTU give 1 or 0 by the order of the signed readings and of the words, and branches are taken by the same orders
 pub record Compares (a b : ℕ) : Type 0 where

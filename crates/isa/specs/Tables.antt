@@ -63,6 +63,10 @@ conditions =
     Condition.Equal ∷ Condition.NotEqual ∷ Condition.Less ∷ Condition.GreaterEqual ∷ Condition.LessUnsigned
     ∷ Condition.GreaterEqualUnsigned ∷ []
 
+-- funct3 of JALR
+abbrev pub jalr_number : ℕ
+jalr_number = 0
+
 -- funct3 of a load
 abbrev pub load_number : LoadWidth → ℕ
 load_number LoadWidth.Byte = 0
@@ -139,3 +143,7 @@ counters = Counter.Cycle ∷ Counter.Time ∷ Counter.CycleHigh ∷ []
 
 abbrev pub read_and_set : ℕ
 read_and_set = 2
+
+-- the source register of a CSRRS that sets nothing
+abbrev pub no_source : ℕ
+no_source = 0

@@ -42,6 +42,18 @@ words =
     ∷ (0x00100073, None)
     ∷ (0x00000000, None)
     ∷ (0xFFFFFFFF, None)
+    -- rdtime x5; rdinstret x5 and rdtimeh x5, which are illegal
+    ∷ (0xC01022F3, Some (ReadCounter (x 5) Counter.Time))
+    ∷ (0xC02022F3, None)
+    ∷ (0xC81022F3, None)
+    -- illegal by one number: LD, SD, a branch by funct3 2, JALR by funct3 1, SLLI with funct7 1 and 20, SLL with funct7 20
+    ∷ (0x00003003, None)
+    ∷ (0x00003023, None)
+    ∷ (0x00002063, None)
+    ∷ (0x00001067, None)
+    ∷ (0x02011093, None)
+    ∷ (0x40011093, None)
+    ∷ (0x40001033, None)
     ∷ []
 
 abbrev pub Worked : Type 0

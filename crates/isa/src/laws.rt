@@ -1,5 +1,5 @@
 // What the definitions of this crate come to, owed by these functions' contracts.
-ghost use Rattle.isa.specs.Laws.{Encodes, Exact, Illegal, Injective, Orders, RoundsDown, Starts, Undoes, Writes, Zero};
+ghost use Rattle.isa.specs.Laws.{Adds, Bitwise, Encodes, Exact, GivesWords, Illegal, Injective, Moves, Orders, RoundsDown, ShiftsByFive, Starts, Undoes, Writes, Zero};
 ghost use Rattle.isa.specs.Worked.{Worked};
 
 // Decoding and encoding agree on every word.
@@ -18,9 +18,14 @@ pub fn registers()
     ensures writes { Writes }
 {}
 
-// Sums, orders and the arithmetic shift.
+// What each operation computes, and when a branch is taken.
 pub fn operations()
+    ensures gives_words { GivesWords }
+    ensures adds { Adds }
     ensures undoes { Undoes }
+    ensures bitwise { Bitwise }
+    ensures moves { Moves }
+    ensures shifts_by_five { ShiftsByFive }
     ensures orders { Orders }
     ensures floor { RoundsDown }
 {}

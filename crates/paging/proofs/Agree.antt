@@ -1,12 +1,11 @@
 -- Memories that agree on a walk's way, and what follows for whole tables.
 use Rattle.std.proofs.Common.{◌≡◌, ℕ, ◌+◌, ◌*◌, ◌<◌, List, Some, None, Option, sym, refl, ◌∙◌, subst, inl, inr, arith}
-use Rattle.std.proofs.lemmas.Bool.Decides.{nat_tests}
 use Rattle.words.specs.Frames.{lent, word, written}
-use Rattle.words.proofs.Frame.{reads_back}
+use Rattle.words.proofs.Frame.{lends, reads_back}
 use Rattle.paging.specs.declared.leaf.Leaf.{Leaf}
 use Rattle.paging.specs.Walks.{walked}
 use Rattle.paging.specs.Mapping.{InMemory, Pointer, Maps}
-use Rattle.paging.specs.Tables.{KernelFrame, Names, PointsTo, SameLent, SameTables}
+use Rattle.paging.specs.Tables.{KernelFrame, Names, Owns, PointsTo, SameLent, SameTables}
 use Rattle.paging.specs.Laws.{LeavesNamed, Local, OneLeaf, PagesEnd, SameWay, TablesDecide, WalksFind, WritesApart}
 use Rattle.std.proofs.lemmas.Option.{same_Some}
 use Rattle.paging.proofs.Found.{finds, maps_walk, walk_maps}
@@ -33,7 +32,7 @@ same_answers None (Some y) there back = back y refl
 same_answers None None there back = refl
 
 carried : (ws vs : List ℕ) (frame : ℕ) → lent vs frame ≡ lent ws frame → InMemory ws frame → InMemory vs frame
-carried ws vs frame same m = record { below = m.below; lent = grind (arith, nat_tests) }
+carried ws vs frame same m = record { below = m.below; lent = (lends vs frame).0 (same ∙ (lends ws frame).1 m.lent) }
 
 -- what maps in one memory maps in another that agrees on its way
 maps_there : (ws vs : List ℕ) (root page : ℕ) (leaf : Leaf) (m : Maps ws root page leaf) → SameWay ws vs root m.high m.low → Maps vs root page leaf
@@ -104,13 +103,18 @@ module _ (ws vs : List ℕ) (root : ℕ) (same : SameTables ws vs root) where
   points_to_back : (table : ℕ) → PointsTo vs root table → PointsTo ws root table
   points_to_back table p = record { at = p.at; within = p.within; points = rw (same root p.at (inl refl) p.within) at p.points }
 
-  kernel_back : (frame : ℕ) → KernelFrame vs root frame → KernelFrame ws root frame
-  kernel_back frame k = elim k [ inl e ↦ inl e | inr p ↦ inr (points_to_back frame p) ]
+  pub kernel_there : (frame : ℕ) → KernelFrame ws root frame → KernelFrame vs root frame
+  kernel_there frame (inl e) = inl e
+  kernel_there frame (inr p) = inr (points_to_there frame p)
 
-  tables_back : SameTables vs ws root
+  pub kernel_back : (frame : ℕ) → KernelFrame vs root frame → KernelFrame ws root frame
+  kernel_back frame (inl e) = inl e
+  kernel_back frame (inr p) = inr (points_to_back frame p)
+
+  pub tables_back : SameTables vs ws root
   tables_back frame k kernel l = sym (same frame k (kernel_back frame kernel) l)
 
-  names_there : (frame : ℕ) → Names ws root frame → Names vs root frame
+  pub names_there : (frame : ℕ) → Names ws root frame → Names vs root frame
   names_there frame n =
       let e = same n.table n.at (inr n.by) n.within in
       record {
@@ -122,30 +126,41 @@ module _ (ws vs : List ℕ) (root : ℕ) (same : SameTables ws vs root) where
         names = rw e n.names;
       }
 
-  -- the way of a mapped page leads through the tables alone
-  tables_way : SameLent ws vs root → (page : ℕ) (leaf : Leaf) (m : Maps ws root page leaf) → SameWay ws vs root m.high m.low
-  tables_way lents page leaf m =
-      let by : (table : ℕ) → Pointer (word ws root m.high) table → PointsTo ws root table = λ table p. record { at = m.high; within = m.high_below; points = p } in
+  pub owns_there : (frame : ℕ) → Owns ws root frame → Owns vs root frame
+  owns_there frame (inl kernel) = inl (kernel_there frame kernel)
+  owns_there frame (inr names) = inr (names_there frame names)
+
+  -- the way of a page leads through the tables alone
+  pub tables_way : SameLent ws vs root → (high low : ℕ) → high < 1024 → low < 1024 → SameWay ws vs root high low
+  tables_way lents high low high_below low_below =
+      let by : (table : ℕ) → Pointer (word ws root high) table → PointsTo ws root table = λ table p. record { at = high; within = high_below; points = p } in
       record {
-        root_entry = same root m.high (inl refl) m.high_below;
-        table_entry = λ table p. same table m.low (inr (by table p)) m.low_below;
+        root_entry = same root high (inl refl) high_below;
+        table_entry = λ table p. same table low (inr (by table p)) low_below;
         root_lent = lents root (inl (inl refl));
         table_lent = λ table p. lents table (inl (inr (by table p)));
-        leaf_lent = λ table l p e. lents l.frame (inr (record { table = table; by = by table p; at = m.low; within = m.low_below; valid = e.valid; names = e.frame }));
+        leaf_lent = λ table l p e. lents l.frame (inr (record { table = table; by = by table p; at = low; within = low_below; valid = e.valid; names = e.frame }));
       }
+
+-- two memories with the same tables have the same frames of the root
+module _ (ws vs : List ℕ) (root : ℕ) (same : SameTables ws vs root) where
+  pub names_back : (frame : ℕ) → Names vs root frame → Names ws root frame
+  names_back = names_there vs ws root (tables_back ws vs root same)
+
+  pub owns_back : (frame : ℕ) → Owns vs root frame → Owns ws root frame
+  owns_back = owns_there vs ws root (tables_back ws vs root same)
 
 pub tables_decide : TablesDecide
 tables_decide ws vs root same =
     let back = tables_back ws vs root same in
-    let lent_back : SameLent ws vs root → SameLent vs ws root = λ lents frame k. sym (lents frame (elim k [
-      | inl kernel ↦ inl (kernel_back ws vs root same frame kernel)
-      | inr n ↦ inr (names_there vs ws root back frame n)
-    ])) in
+    let lent_back : SameLent ws vs root → SameLent vs ws root = λ lents frame owned. sym (lents frame (owns_back ws vs root same frame owned)) in
     record {
       back = back;
       points_to = points_to_there ws vs root same;
       names = names_there ws vs root same;
-      walks = λ lents page. same_walk ws vs root page (tables_way ws vs root same lents page) (tables_way vs ws root back (lent_back lents) page);
+      walks = λ lents page. same_walk ws vs root page
+          (λ leaf m. tables_way ws vs root same lents m.high m.low m.high_below m.low_below)
+          (λ leaf m. tables_way vs ws root back (lent_back lents) m.high m.low m.high_below m.low_below);
     }
 
 pub writes_apart : WritesApart

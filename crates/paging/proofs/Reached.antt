@@ -29,7 +29,7 @@ module _ {X E : Type 0} (x : X) (e : E) where
 
 module _ (address : ℕ) (access : Access) where
   placed_through : (o : Option Leaf) (place : Place) → then_place address access o ≡ Ok place → (leaf : Leaf) × (o ≡ Some leaf) × Allows leaf access × (place_in leaf.frame address ≡ place)
-  placed_through None place e = absurd (let z : ◌≡◌ {A = ℕ} 0 1 = cc in omega arith)
+  placed_through None place e = absurd (cc)
   placed_through (Some leaf) place e =
       let t = tested_ok (place_in leaf.frame address) (page_fault access) (permitted leaf access) place e in
       (leaf, refl, (permitted_tells leaf access).0 t.0, t.1)

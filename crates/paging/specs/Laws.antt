@@ -38,7 +38,7 @@ pub record SameWay (ws vs : List ℕ) (root high low : ℕ) : Type 0 where
   pub table_lent : (table : ℕ) → Pointer (word ws root high) table → lent vs table ≡ lent ws table
   pub leaf_lent : (table : ℕ) (leaf : Leaf) → Pointer (word ws root high) table → LeafEntry (word ws table low) leaf → lent vs leaf.frame ≡ lent ws leaf.frame
 
--- a walk depends on nothing else; all pages below 2 ^ 20 have such a number
+-- a walk depends on nothing else; every page is high * 1024 + low with a low below 1,024
 abbrev pub Local : Type 0
 Local =
     (ws vs : List ℕ) (root high low : ℕ) → low < 1024 → SameWay ws vs root high low →

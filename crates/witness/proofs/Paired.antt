@@ -1,10 +1,9 @@
 -- Two systems that agree on the first partition and differ elsewhere.
 use Rattle.std.proofs.Common.{◌≡◌, ℕ, ◌<◌, sym, refl, ap, ◌∙◌, subst, inl, inr, arith}
 use Rattle.std.proofs.lemmas.Bool.{cases_eq, eq-eqb, eqb-true}
-use Rattle.words.specs.Frames.{word}
 use Rattle.paging.specs.Laws.{SameWay}
-use Rattle.paging.specs.Mapping.{Pointer}
-use Rattle.paging.specs.Tables.{Owns, PointsTo}
+use Rattle.paging.specs.Tables.{Owns}
+use Rattle.paging.proofs.Agree.{tables_way}
 use Rattle.hart.specs.Laws.{SameOwn, TablesApart}
 use Rattle.plan.specs.Format.{plan_of, rows}
 use Rattle.plan.specs.Rules.{channel}
@@ -101,16 +100,7 @@ module _ (content other : ℕ → ℕ → ℕ) (code : (k : ℕ) → other 2 k �
   same_own = own (plan_of two) 0 (omega (arith, two_partitions)) (In first_alone) refl (memory here content) (memory there other) here_facts.frames there_facts.frames agree.words
 
   same_way : (high low : ℕ) → high < 1024 → low < 1024 → SameWay (memory here content) (memory there other) (root (plan_of two) 0) high low
-  same_way high low bh bl =
-      let by : (table : ℕ) → Pointer (word (memory here content) (root (plan_of two) 0) high) table → PointsTo (memory here content) (root (plan_of two) 0) table =
-      λ table p. record { at = high; within = bh; points = p } in
-      record {
-        root_entry = same_own.tables (root (plan_of two) 0) high (inl refl) bh;
-        table_entry = λ table p. same_own.tables table low (inr (by table p)) bl;
-        root_lent = same_own.lent (root (plan_of two) 0) (inl (inl refl));
-        table_lent = λ table p. same_own.lent table (inl (inr (by table p)));
-        leaf_lent = λ table l p e. same_own.lent l.frame (inr (record { table = table; by = by table p; at = low; within = bl; valid = e.valid; names = e.frame }));
-      }
+  same_way = tables_way (memory here content) (memory there other) (root (plan_of two) 0) same_own.tables same_own.lent
 
   pair : Pair content other
   pair = record {

@@ -6,7 +6,7 @@ use Rattle.words.specs.First.{first, any, count, most, unless}
 
 pub or_none : {X : Type 0} (o q : Option X) → option_or o q ≡ None → (o ≡ None) × (q ≡ None)
 or_none None q e = (refl, e)
-or_none (Some x) q e = absurd (let z : ◌≡◌ {A = ℕ} 0 1 = cc in omega arith)
+or_none (Some x) q e = absurd (cc)
 
 pub or_some : {X : Type 0} (o q : Option X) (x : X) → option_or o q ≡ Some x → (o ≡ Some x) ⊎ ((o ≡ None) × (q ≡ Some x))
 or_some None q x e = inr (refl, e)
@@ -14,10 +14,10 @@ or_some (Some y) q x e = inl e
 
 pub unless_ok : {X E : Type 0} (o : Option E) (x y : X) → unless o x ≡ Ok y → o ≡ None
 unless_ok None x y e = refl
-unless_ok (Some z) x y e = absurd (let z : ◌≡◌ {A = ℕ} 0 1 = cc in omega arith)
+unless_ok (Some z) x y e = absurd (cc)
 
 pub unless_err : {X E : Type 0} (o : Option E) (x : X) (z : E) → unless o x ≡ Err z → o ≡ Some z
-unless_err None x z e = absurd (let z : ◌≡◌ {A = ℕ} 0 1 = cc in omega arith)
+unless_err None x z e = absurd (cc)
 unless_err (Some y) x z e = cc
 
 module _ {X : Type 0} (f : ℕ → Option X) where
@@ -63,7 +63,7 @@ module _ {X : Type 0} (f : ℕ → Option X) where
 
   pub first_is : (n : ℕ) (e : X) → first f n ≡ Some e → (i : ℕ) × (i < n) × (f i ≡ Some e) × ((k : ℕ) → k < i → f k ≡ None)
   unfolding first
-  first_is zero e h = absurd (let z : ◌≡◌ {A = ℕ} 0 1 = cc in omega arith)
+  first_is zero e h = absurd (cc)
   first_is (suc n) e h = elim (or_some (first f n) (f n) e h) [
     | inl g ↦ let z = first_is n e g in (z.0, omega (arith, z.1), z.2, z.3)
     | inr g ↦ (n, omega arith, g.1, none_below n g.0)
@@ -150,11 +150,6 @@ module _ (f : ℕ → ℕ) where
     | inl h ↦ omega (arith, most_bound n k h)
     | inr h ↦ let s : k ≡ n = omega arith in rw s (omega arith)
   ]
-
-  pub most_below : (n bound : ℕ) → ((k : ℕ) → k < n → f k ≤ bound) → most f n ≤ bound
-  unfolding most
-  most_below zero bound h = omega arith
-  most_below (suc n) bound h = omega (arith, most_below n bound (λ k l. h k (omega arith)), h n (omega arith))
 
 pub any_same : (f g : ℕ → Bool) (n : ℕ) → ((k : ℕ) → k < n → f k ≡ g k) → any f n ≡ any g n
 unfolding any

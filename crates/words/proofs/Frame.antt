@@ -1,15 +1,19 @@
 -- Laws of frames.
-use Rattle.std.proofs.Common.{◌≡◌, ℕ, ◌+◌, ◌-◌, ◌*◌, ◌/◌, ◌<◌, ◌≤◌, true, ◌&&◌, ◌≢◌, ◌⊎◌, List, ◌++◌, length, get_or, take, drop, ◌∙◌, inl, inr, arith}
+use Rattle.std.proofs.Common.{◌≡◌, ℕ, ◌+◌, ◌-◌, ◌*◌, ◌<◌, ◌≤◌, true, ◌&&◌, ◌≢◌, ◌⊎◌, List, ◌++◌, length, get_or, take, drop, ◌∙◌, inl, inr, arith}
 use lib.Seq.{paste}
 use Rattle.std.proofs.lemmas.List.{get_or-set_same, get_or-set_other, length-set, length-append, length-take, length-take-le, get_or-take, get_or-drop, get_or_append_left, get_or-append_right}
 use Rattle.std.proofs.lemmas.List.Edits.{length-between, get_or-between, length-paste}
-use Rattle.std.proofs.lemmas.Bool.{cases_Bool, cases_lt, ltb-true, and_parts, and_from, both_ways}
+use Rattle.std.proofs.lemmas.Bool.{cases_Bool, cases_lt, and_parts, and_from, both_ways}
+use Rattle.std.proofs.lemmas.Bool.Decides.{nat_tests}
 use Rattle.words.specs.Frames.{contents, copied, lent}
-use Rattle.words.specs.Laws.{ReadsBack, Copies}
+use Rattle.words.specs.Laws.{Lends, ReadsBack, Copies}
+
+pub lends : Lends
+lends ws frame = grind (arith, nat_tests)
 
 -- the words of a lent frame lie among the lent words
 pub lent_room : (ws : List ℕ) (frame : ℕ) → lent ws frame ≡ true → frame * 1024 + 1024 ≤ length ws
-lent_room ws frame h = omega (arith, ltb-true frame (length ws / 1024) h)
+lent_room ws frame = (lends ws frame).0
 
 pub length_contents : (ws : List ℕ) (frame : ℕ) → lent ws frame ≡ true → length (contents ws frame) ≡ 1024
 length_contents ws frame h = omega (arith, length-between ws (frame * 1024) (frame * 1024 + 1024) (lent_room ws frame h))

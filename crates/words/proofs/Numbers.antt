@@ -4,12 +4,7 @@ use native.Mathlib.Nat.{mul-add-div, div-eq_of_lt, pow-succ'}
 use Rattle.std.proofs.lemmas.List.{get_or_past, get_or-take}
 use Rattle.std.proofs.lemmas.Bool.{cases_lt}
 use Rattle.words.specs.Bytes.{byte, number}
-use Rattle.words.specs.Laws.{LowByteFirst}
-
--- bytes past the end write 0
-pub number_past : (bytes : List ℕ) (at count : ℕ) → length bytes ≤ at → number bytes at count ≡ 0
-number_past bytes at zero h = refl
-number_past bytes at (suc count) h = omega (arith, get_or_past bytes at 0 h, number_past bytes (at + 1) count (omega arith))
+use Rattle.words.specs.Laws.{LowByteFirst, NumbersFit}
 
 -- the bytes after the first m weigh 256 ^ m
 pub number_split : (bytes : List ℕ) (at m n : ℕ) → number bytes at (m + n) ≡ number bytes at m + 256 ^ m * number bytes (at + m) n
@@ -21,7 +16,7 @@ number_split bytes at (suc m) n =
     let weight : 256 ^ suc m * rest ≡ 256 * (256 ^ m * rest) = rw (pow-succ', mul_assoc) refl in
     rw (suc-add, place) (omega arith)
 
-number_below : (bytes : List ℕ) (at count : ℕ) → ((i : ℕ) → byte bytes i < 256) → number bytes at count < 256 ^ count
+pub number_below : NumbersFit
 number_below bytes at zero h = omega arith
 number_below bytes at (suc count) h = rw pow-succ' (omega (arith, h at, number_below bytes (at + 1) count h))
 

@@ -5,7 +5,10 @@ use Rattle.std.proofs.lemmas.Nat.{mod-pow-add, shr-shr, pow_pos, mod_below}
 use Rattle.std.proofs.lemmas.Int.{ints}
 use Rattle.std.proofs.lemmas.Bool.{cases_lt, lt-ltb, le-ltb, cond-true, cond-false}
 use Rattle.words.specs.Bits.{signed}
-use Rattle.words.specs.Laws.{FieldsJoin, Signs}
+use Rattle.words.specs.Laws.{FieldsJoin, LowFields, Signs}
+
+pub low_fields : LowFields
+low_fields w n = rw div-one
 
 pub fields_join : FieldsJoin
 fields_join w low m n =

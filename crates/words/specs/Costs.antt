@@ -36,7 +36,8 @@ highest = instruction + page_walk + page_walk + miss + write_back
 abbrev pub highest_branch : ℕ
 highest_branch = instruction + page_walk + misprediction
 
--- the highest cost of a switch that carries no message: the last instruction began in the slot's last cycle, and every line is dirty
+-- the most that can lie between a slot's end and the end of a switch without messages: the last instruction began in the slot's
+-- last cycle, and every line is dirty
 abbrev pub switch : ℕ
 switch = highest - 1 + cache_lines * write_back
 

@@ -1,5 +1,5 @@
 -- What the definitions of this crate come to, in laws that do not mention how they are computed.
-use Rattle.std.specs.Prelude.{◌≡◌, ℕ, ◌+◌, ◌-◌, ◌*◌, ◌/◌, ◌%◌, ◌^◌, ◌<◌, true, false, ◌&&◌, ◌≢◌, ◌⊎◌, List, length, pos, ◌+ℤ◌, neg_ℤ, ◌≤ℤ◌, ◌<ℤ◌, slice_index}
+use Rattle.std.specs.Prelude.{◌≡◌, ℕ, ◌+◌, ◌-◌, ◌*◌, ◌/◌, ◌%◌, ◌^◌, ◌<◌, ◌≤◌, true, false, ◌&&◌, ◌≢◌, ◌⊎◌, List, length, pos, ◌+ℤ◌, neg_ℤ, ◌≤ℤ◌, ◌<ℤ◌, slice_index, Decides}
 use Rattle.words.specs.Bytes.{byte, number}
 use Rattle.words.specs.Bits.{field, signed}
 use Rattle.words.specs.Frames.{copied, lent, word, written}
@@ -9,6 +9,14 @@ abbrev pub LowByteFirst : Type 0
 LowByteFirst =
     (bytes : List ℕ) (at count k : ℕ) → ((i : ℕ) → byte bytes i < 256) → k < count →
     number bytes at count / 256 ^ k % 256 ≡ byte bytes (at + k)
+
+-- the number that `count` bytes write is below 256 ^ count
+abbrev pub NumbersFit : Type 0
+NumbersFit = (bytes : List ℕ) (at count : ℕ) → ((i : ℕ) → byte bytes i < 256) → number bytes at count < 256 ^ count
+
+-- the field of the low n bits is the remainder by 2 ^ n
+abbrev pub LowFields : Type 0
+LowFields = (w n : ℕ) → field w 0 n ≡ w % 2 ^ n
 
 -- a field is its low part, and above it the rest
 abbrev pub FieldsJoin : Type 0
@@ -22,6 +30,10 @@ pub record SignExtends (width w : ℕ) : Type 0 where
 
 abbrev pub Signs : Type 0
 Signs = (width w : ℕ) → 0 < width → SignExtends width w
+
+-- a frame is lent if and only if all of its words are
+abbrev pub Lends : Type 0
+Lends = (ws : List ℕ) (frame : ℕ) → Decides (lent ws frame) (frame * 1024 + 1024 ≤ length ws)
 
 -- what is written is read back, and every other word stays
 pub record Writes (ws : List ℕ) (frame offset value : ℕ) : Type 0 where

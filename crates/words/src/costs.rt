@@ -23,12 +23,12 @@ pub const CACHE_LINES: u32 = 64;
 pub const HIGHEST: u32 = INSTRUCTION + WALK + WALK + MISS + WRITE_BACK;
 // The highest cost of a branch, which has no data: its code page is missing, and the predictor got it wrong.
 pub const HIGHEST_BRANCH: u32 = INSTRUCTION + WALK + MISPREDICTION;
-// The highest cost of a switch that carries no message: the last instruction began in the slot's last cycle, and every line is dirty.
+// The most that can lie between a slot's end and the end of a switch without messages: the last instruction began in the slot's last cycle, and every line is dirty.
 pub const SWITCH: u32 = HIGHEST - 1 + CACHE_LINES * WRITE_BACK;
 // The cost of a message: one frame.
 pub const MESSAGE: u32 = FRAME_WORDS as u32 * COPIED_WORD;
 
-// What an event costs.
+// What costs something. `Event` and `cost_of` are only there to tie each constant above to the definition of the same cost: no contract speaks of a constant itself.
 #[derive(Clone, Copy)]
 pub enum Event {
     Instruction,

@@ -41,8 +41,8 @@ pub fn copy(words: &mut [u32], from: u32, to: u32)
     }
 }
 
-// Fetched and written over, and no `copy_within`: a frame is lent on as a part of the words (a rule of the project).
-fn fetched(words: &[u32], frame: usize) -> [u32; 1024]
+// Fetched and written over, and no `copy_within`: a frame is lent on as a part of the words (docs/DECISIONS.md, "Forms of the language").
+fn fetched(words: &[u32], frame: usize) -> [u32; FRAME_WORDS]
     requires { frame * 1024 + 1024 ≤ length words.now }
     ensures { result ≡ contents words.now frame }
 {
@@ -52,7 +52,7 @@ fn fetched(words: &[u32], frame: usize) -> [u32; 1024]
     source
 }
 
-fn replace(words: &mut [u32], frame: usize, source: &[u32; 1024])
+fn replace(words: &mut [u32], frame: usize, source: &[u32; FRAME_WORDS])
     requires { frame * 1024 + 1024 ≤ length words.old }
     ensures { words.new ≡ paste words.old (frame * 1024) source.now 1024 }
 {
@@ -61,7 +61,7 @@ fn replace(words: &mut [u32], frame: usize, source: &[u32; 1024])
     overwrite(&mut words[start..end], source);
 }
 
-fn overwrite(target: &mut [u32], source: &[u32; 1024])
+fn overwrite(target: &mut [u32], source: &[u32; FRAME_WORDS])
     requires { length target.old ≡ 1024 }
     ensures { target.new ≡ source.now }
 {
