@@ -4,7 +4,7 @@ use Rattle.std.proofs.lemmas.Bool.{cases_Bool, cases_eq, cases_lt, true≢false}
 use Rattle.words.specs.Frames.{word}
 use Rattle.words.proofs.Frame.{copies}
 use Rattle.paging.specs.Tables.{Names, Owns}
-use Rattle.paging.proofs.Agree.{tables_decide, walks_find}
+use Rattle.paging.proofs.Agree.{owns_back, owns_there, tables_decide, walks_find}
 use Rattle.plan.specs.declared.model.Endpoint.{Endpoint}
 use Rattle.plan.specs.declared.model.Plan.{Plan}
 use Rattle.plan.specs.Rules.{channel, leaves}
@@ -17,7 +17,7 @@ use Rattle.kernel.specs.Switch.{carried, delivered, ends_of}
 use Rattle.separation.specs.Agreement.{SameWords}
 use Rattle.separation.specs.Flows.{Closed}
 use Rattle.separation.proofs.Facts.{Facts, behind_names, facts_kept}
-use Rattle.separation.proofs.Frames.{Kept, kept_more, kept_none, others_kept, owns_back, owns_there}
+use Rattle.separation.proofs.Frames.{Kept, kept_more, kept_none, others_kept}
 use Rattle.separation.proofs.Steps.{foreign, tables_of}
 
 module _ (a : Accepted) (who : ℕ) where

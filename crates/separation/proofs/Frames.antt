@@ -4,8 +4,8 @@ use Rattle.words.specs.Frames.{lent, word}
 use Rattle.paging.specs.declared.leaf.Leaf.{Leaf}
 use Rattle.paging.specs.Entries.{frame_of}
 use Rattle.paging.specs.Mapping.{InMemory, Maps}
-use Rattle.paging.specs.Tables.{Alike, KernelFrame, Names, Owns, SameTables}
-use Rattle.paging.proofs.Agree.{tables_decide}
+use Rattle.paging.specs.Tables.{Names, SameTables}
+use Rattle.paging.proofs.Agree.{kernel_there, names_back, tables_back}
 use Rattle.plan.specs.declared.model.Endpoint.{Endpoint}
 use Rattle.plan.specs.declared.model.Plan.{Plan}
 use Rattle.plan.specs.Format.{plan_of}
@@ -20,34 +20,6 @@ use Rattle.checker.specs.Pages.{ends_or_none, no_ends}
 use Rattle.checker.proofs.Joined.{ends_kept}
 use Rattle.checker.proofs.Judged.{accepted_sound, lawful_accepted}
 use Rattle.checker.proofs.Leading.{leads_maps}
-
--- of one root
-module _ (ws vs : List ℕ) (r : ℕ) (same : SameTables ws vs r) where
-  alike : Alike ws vs r
-  alike = tables_decide ws vs r same
-
-  pub kernel_there : (f : ℕ) → KernelFrame ws r f → KernelFrame vs r f
-  kernel_there f (inl e) = inl e
-  kernel_there f (inr points) = inr (alike.points_to f points)
-
-  pub owns_there : (f : ℕ) → Owns ws r f → Owns vs r f
-  owns_there f (inl k) = inl (kernel_there f k)
-  owns_there f (inr n) = inr (alike.names f n)
-
-  pub tables_back : SameTables vs ws r
-  tables_back = alike.back
-
-pub owns_back : (ws vs : List ℕ) (r : ℕ) → SameTables ws vs r → (f : ℕ) → Owns vs r f → Owns ws r f
-owns_back ws vs r same = owns_there vs ws r (tables_back ws vs r same)
-
-pub kernel_back : (ws vs : List ℕ) (r : ℕ) → SameTables ws vs r → (f : ℕ) → KernelFrame vs r f → KernelFrame ws r f
-kernel_back ws vs r same = kernel_there vs ws r (tables_back ws vs r same)
-
-pub names_there : (ws vs : List ℕ) (r : ℕ) → SameTables ws vs r → (f : ℕ) → Names ws r f → Names vs r f
-names_there ws vs r same = (tables_decide ws vs r same).names
-
-pub names_back : (ws vs : List ℕ) (r : ℕ) → SameTables ws vs r → (f : ℕ) → Names vs r f → Names ws r f
-names_back ws vs r same = names_there vs ws r (tables_back ws vs r same)
 
 same_more : (ws vs us : List ℕ) (r : ℕ) → SameTables ws vs r → SameTables vs us r → SameTables ws us r
 same_more ws vs us r a b f k o l = b f k (kernel_there ws vs r a f o) l ∙ a f k o l

@@ -9,7 +9,7 @@ use Rattle.tables.specs.Cache.{dirty_at}
 use Rattle.tables.specs.First.{first_tables}
 use Rattle.tables.specs.Honest.{Honest}
 use Rattle.tables.proofs.Truth.{honesty}
-use Rattle.paging.proofs.Agree.{leaves_named}
+use Rattle.paging.proofs.Agree.{leaves_named, names_back}
 use Rattle.plan.specs.Rules.{channel, channels_out, leaves}
 use Rattle.plan.specs.Timetable.{begins}
 use Rattle.checker.specs.declared.Accepted.{Accepted}
@@ -24,7 +24,7 @@ use Rattle.separation.specs.Promises.{Confined, Executes, GoesOn, KeepsPromises,
 use Rattle.separation.specs.Running.{BeforeSlot, Running}
 use Rattle.separation.proofs.Carrying.{delivered_kept, delivered_others, delivered_there, is_receiver}
 use Rattle.separation.proofs.Facts.{Facts, accepts_again, facts, facts_kept}
-use Rattle.separation.proofs.Frames.{Kept, kept_more, names_back}
+use Rattle.separation.proofs.Frames.{Kept, kept_more}
 use Rattle.separation.proofs.Steps.{Good, Went, foreign, until_counted, until_goes_on, until_least, until_most, until_went}
 
 module _ (bytes : List ℕ) (a : Accepted) (s : System) (before : BeforeSlot bytes a s) where

@@ -4,7 +4,7 @@ use Rattle.std.proofs.lemmas.Bool.{cases_eq, cases_lt, le-ltb, lt-ltb}
 use Rattle.words.specs.Costs.{highest}
 use Rattle.words.specs.Frames.{lent, word}
 use Rattle.paging.specs.Tables.{Names, Owns, SameTables}
-use Rattle.paging.proofs.Agree.{leaves_named}
+use Rattle.paging.proofs.Agree.{kernel_back, leaves_named, names_back, owns_back, owns_there}
 use Rattle.tables.specs.Honest.{Honest}
 use Rattle.hart.specs.declared.context.State.{State}
 use Rattle.hart.specs.declared.context.State.TheVariants.{Ready, Stopped}
@@ -23,7 +23,7 @@ use Rattle.kernel.specs.Inside.{Inside, next, until}
 use Rattle.kernel.proofs.Running.{idles, until_past, until_step}
 use Rattle.separation.specs.Agreement.{SameInside, SameWords}
 use Rattle.separation.specs.Promises.{GoesOn}
-use Rattle.separation.proofs.Frames.{Kept, kernel_back, kept_none, kept_more, kept_lent, names_back, others_kept, owns_back, owns_there}
+use Rattle.separation.proofs.Frames.{Kept, kept_none, kept_more, kept_lent, others_kept}
 
 -- what the checker tells of the frames of a plan's partitions
 pub record SoundFrames (p : Plan) (ws : List ℕ) : Type 0 where

@@ -2,6 +2,7 @@
 use Rattle.std.proofs.Common.{◌≡◌, ℕ, zero, suc, ◌+◌, ◌^◌, ◌<◌, true, cond, ◌&&◌, ltb, List, Some, None, sym, refl, ap, ◌∙◌, subst, inl, inr, arith}
 use Rattle.std.proofs.lemmas.Bool.{cases_Bool, cases_eq}
 use Rattle.words.specs.Frames.{word}
+use Rattle.paging.proofs.Agree.{owns_back, owns_there}
 use Rattle.tables.specs.Honest.{Honest}
 use Rattle.plan.specs.declared.model.Plan.{Plan}
 use Rattle.plan.specs.Timetable.{slot_of}
@@ -18,7 +19,6 @@ use Rattle.separation.specs.Agreement.{Agree, AllBut, In, Noninterference, NotRe
 use Rattle.separation.specs.Flows.{Closed, RowOfFlows, stays, goes_on}
 use Rattle.separation.specs.Running.{BeforeSlot}
 use Rattle.separation.proofs.Carrying.{delivered_alike, with_ends}
-use Rattle.separation.proofs.Frames.{owns_back, owns_there}
 use Rattle.separation.proofs.Slots.{before_again, cleared, confined, end_facts, good, known, next, ran_context, turned, went, who_known, words_are}
 use Rattle.separation.proofs.Steps.{Good, foreign, tables_of, until_alike}
 
