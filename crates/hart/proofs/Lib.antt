@@ -1,5 +1,6 @@
 -- The lemmas of this crate.
 pub mod Replacing
+pub mod Bytes
 pub mod Ran
 pub mod Agreeing
 pub mod Honesty

@@ -1,6 +1,7 @@
 -- The definitions of this crate.
 pub mod Causes
 pub mod Memory
+pub mod Bytes
 pub mod Execution
 pub mod Core
 pub mod Architecture

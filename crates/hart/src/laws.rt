@@ -1,4 +1,5 @@
 // What the definitions of this crate come to, owed by this function's contract.
+ghost use Rattle.hart.specs.Bytes.{LoadsBytes, StoresBytes};
 ghost use Rattle.hart.specs.Clocked.{Clocked};
 ghost use Rattle.hart.specs.Example.{Example};
 ghost use Rattle.hart.specs.Laws.{Agreement, KeepsHonest, SeesOwn, StaysHonest, StaysOwn, WritesOwn};
@@ -15,4 +16,6 @@ pub fn laws()
     ensures stays { StaysOwn }
     ensures steps { Steps }
     ensures whole { StayWhole }
+    ensures loads { LoadsBytes }
+    ensures stores { StoresBytes }
 {}
