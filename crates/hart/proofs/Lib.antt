@@ -1,6 +1,7 @@
 -- The lemmas of this crate.
 pub mod Replacing
 pub mod Bytes
+pub mod Halves
 pub mod Ran
 pub mod Agreeing
 pub mod Honesty
@@ -9,4 +10,5 @@ pub mod Stepping
 pub mod Writing
 pub mod Staying
 pub mod Worked
+pub mod Meaning
 pub mod Instance

@@ -8,4 +8,5 @@ pub mod Architecture
 pub mod Laws
 pub mod Steps
 pub mod Clocked
+pub mod Meant
 pub mod Example

@@ -2,7 +2,8 @@
 ghost use Rattle.hart.specs.Bytes.{LoadsBytes, StoresBytes};
 ghost use Rattle.hart.specs.Clocked.{Clocked};
 ghost use Rattle.hart.specs.Example.{Example};
-ghost use Rattle.hart.specs.Laws.{Agreement, KeepsHonest, SeesOwn, StaysHonest, StaysOwn, WritesOwn};
+ghost use Rattle.hart.specs.Laws.{Agreement, ClockHalves, KeepsHonest, SeesOwn, StaysHonest, StaysOwn, WritesOwn};
+ghost use Rattle.hart.specs.Meant.{Meant};
 ghost use Rattle.hart.specs.Steps.{StayWhole, Steps};
 
 pub fn laws()
@@ -16,6 +17,8 @@ pub fn laws()
     ensures stays { StaysOwn }
     ensures steps { Steps }
     ensures whole { StayWhole }
+    ensures meant { Meant }
     ensures loads { LoadsBytes }
     ensures stores { StoresBytes }
+    ensures halves { ClockHalves }
 {}
