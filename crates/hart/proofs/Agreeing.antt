@@ -1,5 +1,5 @@
 -- The core does what the architecture does.
-use Rattle.std.proofs.Common.{◌≡◌, ℕ, ◌/◌, ◌%◌, ◌⊎◌, List, Some, None, Ok, Err, Option, sym, refl, ap, ◌∙◌, inl, inr}
+use Rattle.std.proofs.Common.{◌≡◌, ℕ, ◌/◌, ◌%◌, Bool, true, false, cond, ◌⊎◌, List, Some, None, Ok, Err, Option, sym, refl, ap, ◌∙◌, inl, inr}
 use Rattle.std.proofs.lemmas.Bool.{cases_Bool}
 use Rattle.isa.specs.declared.register.Register.{Register}
 use Rattle.isa.specs.declared.instruction.Instruction.{Instruction}
@@ -29,6 +29,14 @@ use Rattle.hart.specs.Laws.{Agreement}
 pub found_or_not : (o : Option ℕ) → ((frame : ℕ) × (o ≡ Some frame)) ⊎ (o ≡ None)
 found_or_not None = inr refl
 found_or_not (Some frame) = inl (frame, refl)
+
+-- an access: its address is aligned and a frame is found, or none is; or its address is misaligned
+pub access_cases : (P : Ran → Type 0) (aligned : Bool) (o : Option ℕ) (found : Option ℕ → Ran) (misaligned : Ran) →
+    ((frame : ℕ) → aligned ≡ true → o ≡ Some frame → P (found (Some frame))) → (aligned ≡ true → o ≡ None → P (found None)) → (aligned ≡ false → P misaligned) →
+    P (cond aligned (found o) misaligned)
+access_cases P true (Some frame) found misaligned some none other = some frame refl refl
+access_cases P true None found misaligned some none other = none refl refl
+access_cases P false o found misaligned some none other = other refl
 
 -- what a step leaves of program and memory
 record Same (r : Ran) (l : Left) : Type 0 where
