@@ -7,6 +7,7 @@ pub mod Agreeing
 pub mod Honesty
 pub mod Own
 pub mod Stepping
+pub mod Using
 pub mod Writing
 pub mod Staying
 pub mod Worked

@@ -128,7 +128,7 @@ module _ (x : Context) (t : Tables) (ws : List ℕ) (root : ℕ) where
   lookup_walks : (address : ℕ) (access : Access) → Walks 0 1 (looked_up t ws root address access).cost
   lookup_walks address access = found_walks t.tlb (address / 4096) access (walked ws root (address / 4096))
 
-  lookup_most : (address : ℕ) (access : Access) → (looked_up t ws root address access).cost ≤ page_walk
+  pub lookup_most : (address : ℕ) (access : Access) → (looked_up t ws root address access).cost ≤ page_walk
   lookup_most address access = carried_cost t.tlb (address / 4096) access (walked ws root (address / 4096)) (looked_up t ws root address access) refl
 
   lookup_whole : (address : ℕ) (access : Access) → WholeTables t → WholeTables (after_lookup t ws root address access)

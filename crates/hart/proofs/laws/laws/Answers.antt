@@ -8,9 +8,10 @@ use Rattle.hart.proofs.Meaning.{meant}
 use Rattle.hart.proofs.Own.{sees_own}
 use Rattle.hart.proofs.Staying.{stays_own}
 use Rattle.hart.proofs.Stepping.{stay_whole, steps}
+use Rattle.hart.proofs.Using.{uses_tables}
 use Rattle.hart.proofs.Worked.{worked}
 use Rattle.hart.proofs.Writing.{writes_own}
 use Rattle.hart.proofs.laws.laws.Goals as goal
 
 pub returns : goal.returns
-returns c = record { agreement = agreement; clocked = worked; example = example; keeps = keeps_honest; honest = stays_honest; own = sees_own; writes = writes_own; stays = stays_own; steps = steps; whole = stay_whole; meant = meant; loads = loads_bytes; stores = stores_bytes; halves = clock_halves }
+returns c = record { agreement = agreement; clocked = worked; example = example; keeps = keeps_honest; honest = stays_honest; own = sees_own; writes = writes_own; stays = stays_own; steps = steps; whole = stay_whole; uses = uses_tables; meant = meant; loads = loads_bytes; stores = stores_bytes; halves = clock_halves }
