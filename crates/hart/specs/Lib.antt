@@ -7,6 +7,7 @@ pub mod Core
 pub mod Architecture
 pub mod Laws
 pub mod Steps
+pub mod Mapped
 pub mod Clocked
 pub mod Meant
 pub mod Example

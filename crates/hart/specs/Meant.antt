@@ -7,7 +7,7 @@ use Rattle.hart.specs.declared.context.State.{State}
 use Rattle.hart.specs.declared.context.State.TheVariants.{Ready, Stopped}
 use Rattle.hart.specs.declared.context.Context.{Context}
 use Rattle.hart.specs.Architecture.{Left, architecture}
-use Rattle.hart.specs.Clocked.{mapped}
+use Rattle.hart.specs.Mapped.{mapped}
 
 -- a ready program at an address; x1 and x2 hold two numbers, and every other register 0
 abbrev pub program_at : ℕ → ℕ → ℕ → Context
