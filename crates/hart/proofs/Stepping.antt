@@ -287,8 +287,14 @@ module _ (x : Context) (t : Tables) (ws : List ℕ) (root clock : ℕ) where
     ready = λ _. elim ready_kept.way [
       | inl same ↦ inl same
       | inr s ↦ inr (record {
-        cause = s.cause; context = s.context; words = s.words; cache = s.cache; predictor = s.predictor;
-        walks = s.cost.walks; at_most_two = s.cost.few; cost = s.cost.is;
+        cause = s.cause;
+        context = s.context;
+        words = s.words;
+        cache = s.cache;
+        predictor = s.predictor;
+        walks = s.cost.walks;
+        at_most_two = s.cost.few;
+        cost = s.cost.is;
       })
     ];
     rests = λ cause pc e. absurd (apart Ready cause pc refl e);
