@@ -12,5 +12,5 @@ meant = record {
   stores = record { sb = refl; sh = refl };
   jumps = record { jal_link = refl; jal_target = refl; jalr_link = refl; jalr_target = refl; blt = refl };
   operations = record { auipc = refl; next = refl; sub = refl; sltiu = refl; rdcycle = refl; rdtime = refl; rdcycleh = refl };
-  stops = record { illegal = refl; fetch_misaligned = refl; no_link = refl; fetch_fault = refl; load_misaligned = refl; load_fault = refl; store_misaligned = refl; store_fault = refl };
+  stops = record { illegal = refl; fetch_misaligned = refl; no_link = refl; stays = refl; branch_misaligned = refl; not_taken = refl; fetch_fault = refl; load_misaligned = refl; load_fault = refl; keeps = refl; store_misaligned = refl; store_fault = refl };
 }

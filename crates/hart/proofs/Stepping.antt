@@ -29,11 +29,11 @@ use Rattle.hart.specs.declared.cause.Cause.TheVariants.{IllegalInstruction, Fetc
 use Rattle.hart.specs.declared.context.State.{State}
 use Rattle.hart.specs.declared.context.State.TheVariants.{Ready, Stopped}
 use Rattle.hart.specs.declared.context.Context.{Context}
-use Rattle.hart.specs.Memory.{is_aligned, load_bytes, loaded, store_bytes}
+use Rattle.hart.specs.Memory.{loaded}
 use Rattle.hart.specs.Execution.{Doing, sets, jumps, branches, loads, stores, branch_context, doing, goes_on, jumped, misses_target, next_pc, register_set, stopped}
-use Rattle.hart.specs.Core.{Ran, executed, fetch_ran, word_ran, decoded_ran, load_found, load_ran, store_found, store_ran, ran, stepped, stepped_by, looked_up, after_lookup, place_in}
+use Rattle.hart.specs.Core.{Ran, executed, fetch_ran, word_ran, decoded_ran, load_ran, store_ran, ran, stepped, stepped_by, looked_up, after_lookup, place_in}
 use Rattle.hart.specs.Steps.{SetOne, StayWhole, Steps, Stops, WholeTables, fetched}
-use Rattle.hart.proofs.Agreeing.{access_cases, found_or_not}
+use Rattle.hart.proofs.Agreeing.{found_or_not, load_cases, store_cases}
 
 -- the TLB keeps its entries
 put_length : (tlb : Tlb) (page : ℕ) (o : Option Leaf) → length (put tlb page o).entries ≡ length tlb.entries
@@ -158,11 +158,9 @@ module _ (x : Context) (t : Tables) (ws : List ℕ) (root : ℕ) where
       halts cause (after_lookup t ws root address access).tlb before walks cost bound w most (filled_length t.tlb (address / 4096) access (walked ws root (address / 4096)))
 
   load_kept : (width : LoadWidth) (rd : Register) (address : ℕ) → Kept x t ws 0 1 (page_walk + miss + write_back) (load_ran x t ws root width rd address)
-  unfolding load_ran
   load_kept width rd address =
       let after = after_lookup t ws root address Load in
-      access_cases (Kept x t ws 0 1 (page_walk + miss + write_back)) (is_aligned (load_bytes width) address) (looked_up t ws root address Load).frame
-      (λ o. load_found x after ws width rd address o (looked_up t ws root address Load).cost) (ran (stopped x LoadMisaligned) t ws 0)
+      load_cases (Kept x t ws 0 1 (page_walk + miss + write_back)) x t ws root width rd address
       (λ frame _ _. let line = line_of (place_in frame address) in record {
         as_many = refl;
         most = omega (arith, lookup_most address Load, access_at_most after.cache line);
@@ -173,11 +171,9 @@ module _ (x : Context) (t : Tables) (ws : List ℕ) (root : ℕ) where
       (λ _ _. halts_found LoadFault address Load 0 1 _ _ (lookup_walks address Load) (omega (arith, lookup_most address Load))) (λ _. halts_here LoadMisaligned _)
 
   store_kept : (width : StoreWidth) (address value : ℕ) → Kept x t ws 0 1 (page_walk + miss + write_back) (store_ran x t ws root width address value)
-  unfolding store_ran
   store_kept width address value =
       let after = after_lookup t ws root address Store in
-      access_cases (Kept x t ws 0 1 (page_walk + miss + write_back)) (is_aligned (store_bytes width) address) (looked_up t ws root address Store).frame
-      (λ o. store_found x after ws width address value o (looked_up t ws root address Store).cost) (ran (stopped x StoreMisaligned) t ws 0)
+      store_cases (Kept x t ws 0 1 (page_walk + miss + write_back)) x t ws root width address value
       (λ frame _ _. let line = line_of (place_in frame address) in record {
         as_many = length-set ws _ _;
         most = omega (arith, lookup_most address Store, access_at_most after.cache line);

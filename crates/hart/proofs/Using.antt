@@ -11,17 +11,15 @@ use Rattle.isa.specs.declared.instruction.StoreWidth.{StoreWidth}
 use Rattle.isa.specs.Decoding.{decoded}
 use Rattle.isa.specs.Meaning.{holds}
 use Rattle.isa.specs.Registers.{held}
-use Rattle.paging.specs.declared.access.Access.TheVariants.{Fetch, Load as ForLoad, Store as ForStore}
+use Rattle.paging.specs.declared.access.Access.TheVariants.{Fetch}
 use Rattle.tables.specs.declared.Tables.{Tables}
-use Rattle.hart.specs.declared.cause.Cause.TheVariants.{LoadMisaligned, StoreMisaligned}
 use Rattle.hart.specs.declared.context.State.{State}
 use Rattle.hart.specs.declared.context.State.TheVariants.{Ready, Stopped}
 use Rattle.hart.specs.declared.context.Context.{Context}
-use Rattle.hart.specs.Memory.{is_aligned, load_bytes, store_bytes}
-use Rattle.hart.specs.Execution.{misses_target, offset_by, stopped}
-use Rattle.hart.specs.Core.{Ran, after_lookup, branch_tables, decoded_ran, executed, fetch_ran, load_found, load_ran, looked_up, ran, stepped, stepped_by, store_found, store_ran, word_ran}
+use Rattle.hart.specs.Execution.{misses_target, offset_by}
+use Rattle.hart.specs.Core.{Ran, after_lookup, branch_tables, decoded_ran, executed, fetch_ran, load_ran, looked_up, ran, stepped, stepped_by, store_ran, word_ran}
 use Rattle.hart.specs.Steps.{UsesTables, fetched, uses_cache, uses_predictor}
-use Rattle.hart.proofs.Agreeing.{access_cases, found_or_not}
+use Rattle.hart.proofs.Agreeing.{found_or_not, load_cases, store_cases}
 use Rattle.hart.proofs.Stepping.{lookup_most}
 
 -- what becomes of the tables by what was decoded, and what is at most to pay for what uses none
@@ -32,18 +30,10 @@ record Leaves (t : Tables) (most : ℕ) (o : Option Instruction) (r : Ran) : Typ
 
 module _ (x : Context) (t : Tables) (ws : List ℕ) (root : ℕ) where
   load_predictor : (width : LoadWidth) (rd : Register) (address : ℕ) → (load_ran x t ws root width rd address).tables.predictor ≡ t.predictor
-  unfolding load_ran
-  load_predictor width rd address =
-      access_cases (λ r. r.tables.predictor ≡ t.predictor) (is_aligned (load_bytes width) address) (looked_up t ws root address ForLoad).frame
-      (λ o. load_found x (after_lookup t ws root address ForLoad) ws width rd address o (looked_up t ws root address ForLoad).cost) (ran (stopped x LoadMisaligned) t ws 0)
-      (λ _ _ _. refl) (λ _ _. refl) (λ _. refl)
+  load_predictor width rd address = load_cases (λ r. r.tables.predictor ≡ t.predictor) x t ws root width rd address (λ _ _ _. refl) (λ _ _. refl) (λ _. refl)
 
   store_predictor : (width : StoreWidth) (address value : ℕ) → (store_ran x t ws root width address value).tables.predictor ≡ t.predictor
-  unfolding store_ran
-  store_predictor width address value =
-      access_cases (λ r. r.tables.predictor ≡ t.predictor) (is_aligned (store_bytes width) address) (looked_up t ws root address ForStore).frame
-      (λ o. store_found x (after_lookup t ws root address ForStore) ws width address value o (looked_up t ws root address ForStore).cost) (ran (stopped x StoreMisaligned) t ws 0)
-      (λ _ _ _. refl) (λ _ _. refl) (λ _. refl)
+  store_predictor width address value = store_cases (λ r. r.tables.predictor ≡ t.predictor) x t ws root width address value (λ _ _ _. refl) (λ _ _. refl) (λ _. refl)
 
   branch_cache : (taken : Bool) (target : ℕ) → (branch_tables x t taken target).cache ≡ t.cache
   branch_cache taken target = elim (cases_Bool (misses_target taken target)) [ inl e ↦ rw e refl | inr e ↦ rw e refl ]

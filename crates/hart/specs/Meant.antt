@@ -67,15 +67,19 @@ pub record OperationsMeant : Type 0 where
   pub rdtime : leaves_in 3 0xC01021F3 0 0 ≡ 7
   pub rdcycleh : leaves_in 3 0xC80021F3 0 0 ≡ 5
 
--- a word of zeros; JAL x3, 2, which leaves x3 as it was; a counter in page 17, which has no X; LH x3, 1(x1); LW x3, 0(x1) in page 18, which is not mapped;
+-- a word of zeros; JAL x3, 2, which leaves x3 and the counter as they were; BEQ x0, x0, 2, while BNE x0, x0, 2 goes on; a counter in page 17, which has no X; LH x3, 1(x1); LW x3, 0(x1) in page 18, which is not mapped and leaves x1 as it was;
 -- SW x2, 2(x1); SW x2, 0(x1) in page 16, which has no W
 pub record StopsMeant : Type 0 where
   pub illegal : state_of 0 0 0 ≡ Stopped IllegalInstruction 0x10000
   pub fetch_misaligned : state_of 0x002001EF 0 0 ≡ Stopped FetchMisaligned 0x10000
   pub no_link : leaves_in 3 0x002001EF 0 0 ≡ 0
+  pub stays : goes_to 0x002001EF 0 0 ≡ 0x10000
+  pub branch_misaligned : state_of 0x00000163 0 0 ≡ Stopped FetchMisaligned 0x10000
+  pub not_taken : goes_to 0x00001163 0 0 ≡ 0x10004
   pub fetch_fault : (architecture (program_at 0x11000 0 0) (with_code 0) 0 0).context.state ≡ Stopped FetchFault 0x11000
   pub load_misaligned : state_of 0x00109183 0x11000 0 ≡ Stopped LoadMisaligned 0x10000
   pub load_fault : state_of 0x0000A183 0x12000 0 ≡ Stopped LoadFault 0x10000
+  pub keeps : leaves_in 1 0x0000A183 0x12000 0 ≡ 0x12000
   pub store_misaligned : state_of 0x0020A123 0x11000 0 ≡ Stopped StoreMisaligned 0x10000
   pub store_fault : state_of 0x0020A023 0x10000 0 ≡ Stopped StoreFault 0x10000
 
