@@ -56,13 +56,13 @@ pub record JumpsMeant : Type 0 where
   pub jalr_target : goes_to 0x005080E7 0x10010 0 ≡ 0x10014
   pub blt : goes_to 0xFE20CCE3 0xFFFFFFFF 1 ≡ 0xFFF8
 
--- AUIPC x3, 1 adds 1000 in hexadecimal to its own address; SUB x3, x1, x2 is 5 less 7; SLTIU x3, x1, -1 compares 5 with the largest word;
+-- AUIPC x3, 1 adds 1000 to its own address, in hexadecimal; SUB x3, x1, x2 is 5 less 7; SLTIU x3, x1, -1 compares 1000 in hexadecimal with the largest word;
 -- rdcycle, rdtime and rdcycleh into x3
 pub record OperationsMeant : Type 0 where
   pub auipc : leaves_in 3 0x00001197 0 0 ≡ 0x11000
   pub next : goes_to 0x00001197 0 0 ≡ 0x10004
   pub sub : leaves_in 3 0x402081B3 5 7 ≡ 0xFFFFFFFE
-  pub sltiu : leaves_in 3 0xFFF0B193 5 0 ≡ 1
+  pub sltiu : leaves_in 3 0xFFF0B193 0x1000 0 ≡ 1
   pub rdcycle : leaves_in 3 0xC00021F3 0 0 ≡ 7
   pub rdtime : leaves_in 3 0xC01021F3 0 0 ≡ 7
   pub rdcycleh : leaves_in 3 0xC80021F3 0 0 ≡ 5
