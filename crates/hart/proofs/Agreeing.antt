@@ -1,6 +1,5 @@
 -- The core does what the architecture does.
-use Rattle.std.proofs.Common.{◌≡◌, ℕ, ◌/◌, ◌%◌, ◌⊎◌, List, Some, None, Ok, Err, Option, sym, refl, ap, ◌∙◌, inl, inr}
-use Rattle.std.proofs.lemmas.Bool.{cases_Bool}
+use Rattle.std.proofs.Common.{◌≡◌, ℕ, ◌/◌, ◌%◌, Bool, true, false, cond, ◌⊎◌, List, Some, None, Ok, Err, Option, sym, refl, ap, ◌∙◌, inl, inr}
 use Rattle.isa.specs.declared.register.Register.{Register}
 use Rattle.isa.specs.declared.instruction.Instruction.{Instruction}
 use Rattle.isa.specs.declared.instruction.LoadWidth.{LoadWidth}
@@ -16,12 +15,13 @@ use Rattle.tables.specs.declared.Tables.{Tables}
 use Rattle.tables.specs.Honest.{Honest, reached, reached_in}
 use Rattle.tables.proofs.Truth.{honesty}
 use Rattle.words.specs.Frames.{word}
+use Rattle.hart.specs.declared.cause.Cause.TheVariants.{LoadFault, LoadMisaligned, StoreFault, StoreMisaligned}
 use Rattle.hart.specs.declared.context.State.{State}
 use Rattle.hart.specs.declared.context.State.TheVariants.{Ready, Stopped}
 use Rattle.hart.specs.declared.context.Context.{Context}
 use Rattle.hart.specs.Memory.{is_aligned, load_bytes, store_bytes}
-use Rattle.hart.specs.Execution.{Doing, sets, jumps, branches, loads, stores, doing}
-use Rattle.hart.specs.Core.{Ran, executed, fetch_ran, word_ran, decoded_ran, load_ran, store_ran, stepped, stepped_by, looked_up, after_lookup, place_in}
+use Rattle.hart.specs.Execution.{Doing, sets, jumps, branches, loads, stores, doing, stopped}
+use Rattle.hart.specs.Core.{Ran, executed, fetch_ran, word_ran, decoded_ran, load_found, load_from, load_ran, ran, store_found, store_ran, store_to, stepped, stepped_by, looked_up, after_lookup, place_in}
 use Rattle.hart.specs.Architecture.{Left, architecture, program_does, does, fetch_does, instruction_does}
 use Rattle.hart.specs.Laws.{Agreement}
 
@@ -29,6 +29,37 @@ use Rattle.hart.specs.Laws.{Agreement}
 pub found_or_not : (o : Option ℕ) → ((frame : ℕ) × (o ≡ Some frame)) ⊎ (o ≡ None)
 found_or_not None = inr refl
 found_or_not (Some frame) = inl (frame, refl)
+
+-- an access: its address is aligned and a frame is found, or none is; or its address is misaligned
+access_cases : (P : Ran → Type 0) (aligned : Bool) (o : Option ℕ) (found : Option ℕ → Ran) (misaligned : Ran) →
+    ((frame : ℕ) → aligned ≡ true → o ≡ Some frame → P (found (Some frame))) → (aligned ≡ true → o ≡ None → P (found None)) → (aligned ≡ false → P misaligned) →
+    P (cond aligned (found o) misaligned)
+access_cases P true (Some frame) found misaligned some none other = some frame refl refl
+access_cases P true None found misaligned some none other = none refl refl
+access_cases P false o found misaligned some none other = other refl
+
+-- a load by its cases, and a store
+pub load_cases : (P : Ran → Type 0) (x : Context) (t : Tables) (ws : List ℕ) (root : ℕ) (width : LoadWidth) (rd : Register) (address : ℕ) →
+    ((frame : ℕ) → is_aligned (load_bytes width) address ≡ true → (looked_up t ws root address Load).frame ≡ Some frame →
+    P (load_from x (after_lookup t ws root address Load) ws width rd address frame (looked_up t ws root address Load).cost)) →
+    (is_aligned (load_bytes width) address ≡ true → (looked_up t ws root address Load).frame ≡ None →
+    P (ran (stopped x LoadFault) (after_lookup t ws root address Load) ws (looked_up t ws root address Load).cost)) →
+    (is_aligned (load_bytes width) address ≡ false → P (ran (stopped x LoadMisaligned) t ws 0)) → P (load_ran x t ws root width rd address)
+unfolding load_ran
+load_cases P x t ws root width rd address some none misaligned =
+    access_cases P (is_aligned (load_bytes width) address) (looked_up t ws root address Load).frame
+    (λ o. load_found x (after_lookup t ws root address Load) ws width rd address o (looked_up t ws root address Load).cost) (ran (stopped x LoadMisaligned) t ws 0) some none misaligned
+
+pub store_cases : (P : Ran → Type 0) (x : Context) (t : Tables) (ws : List ℕ) (root : ℕ) (width : StoreWidth) (address value : ℕ) →
+    ((frame : ℕ) → is_aligned (store_bytes width) address ≡ true → (looked_up t ws root address Store).frame ≡ Some frame →
+    P (store_to x (after_lookup t ws root address Store) ws width address value frame (looked_up t ws root address Store).cost)) →
+    (is_aligned (store_bytes width) address ≡ true → (looked_up t ws root address Store).frame ≡ None →
+    P (ran (stopped x StoreFault) (after_lookup t ws root address Store) ws (looked_up t ws root address Store).cost)) →
+    (is_aligned (store_bytes width) address ≡ false → P (ran (stopped x StoreMisaligned) t ws 0)) → P (store_ran x t ws root width address value)
+unfolding store_ran
+store_cases P x t ws root width address value some none misaligned =
+    access_cases P (is_aligned (store_bytes width) address) (looked_up t ws root address Store).frame
+    (λ o. store_found x (after_lookup t ws root address Store) ws width address value o (looked_up t ws root address Store).cost) (ran (stopped x StoreMisaligned) t ws 0) some none misaligned
 
 -- what a step leaves of program and memory
 record Same (r : Ran) (l : Left) : Type 0 where
@@ -54,24 +85,18 @@ module _ (t : Tables) (ws : List ℕ) (root : ℕ) (h : Honest t.tlb ws root) wh
   denied address access e = sym (truth address access) ∙ ap (λ o. reached_in o address access) e
 
   load_same : (x : Context) (width : LoadWidth) (rd : Register) (address : ℕ) → Same (load_ran x t ws root width rd address) (does x ws root (loads width rd address))
-  unfolding load_ran
-  load_same x width rd address = elim (cases_Bool (is_aligned (load_bytes width) address)) [
-    | inl a ↦ elim (found_or_not (looked_up t ws root address Load).frame) [
-      | inl f ↦ rw (a, f.1, granted address Load f.0 f.1) (record { context = refl; words = refl })
-      | inr e ↦ rw (a, e, denied address Load e) (record { context = refl; words = refl })
-    ]
-    | inr a ↦ rw a (record { context = refl; words = refl })
-  ]
+  load_same x width rd address =
+      load_cases (λ r. Same r (does x ws root (loads width rd address))) x t ws root width rd address
+      (λ frame a e. rw (a, granted address Load frame e) (record { context = refl; words = refl }))
+      (λ a e. rw (a, denied address Load e) (record { context = refl; words = refl }))
+      (λ a. rw a (record { context = refl; words = refl }))
 
   store_same : (x : Context) (width : StoreWidth) (address value : ℕ) → Same (store_ran x t ws root width address value) (does x ws root (stores width address value))
-  unfolding store_ran
-  store_same x width address value = elim (cases_Bool (is_aligned (store_bytes width) address)) [
-    | inl a ↦ elim (found_or_not (looked_up t ws root address Store).frame) [
-      | inl f ↦ rw (a, f.1, granted address Store f.0 f.1) (record { context = refl; words = refl })
-      | inr e ↦ rw (a, e, denied address Store e) (record { context = refl; words = refl })
-    ]
-    | inr a ↦ rw a (record { context = refl; words = refl })
-  ]
+  store_same x width address value =
+      store_cases (λ r. Same r (does x ws root (stores width address value))) x t ws root width address value
+      (λ frame a e. rw (a, granted address Store frame e) (record { context = refl; words = refl }))
+      (λ a e. rw (a, denied address Store e) (record { context = refl; words = refl }))
+      (λ a. rw a (record { context = refl; words = refl }))
 
   executed_same : (x : Context) (d : Doing) → Same (executed x t ws root d) (does x ws root d)
   unfolding executed

@@ -16,11 +16,10 @@ use Rattle.tables.proofs.Truth.{honesty}
 use Rattle.hart.specs.declared.context.State.{State}
 use Rattle.hart.specs.declared.context.State.TheVariants.{Ready, Stopped}
 use Rattle.hart.specs.declared.context.Context.{Context}
-use Rattle.hart.specs.Memory.{is_aligned, load_bytes, store_bytes}
 use Rattle.hart.specs.Execution.{Doing, sets, jumps, branches, loads, stores, doing, misses_target}
 use Rattle.hart.specs.Core.{Ran, executed, fetch_ran, word_ran, decoded_ran, load_ran, store_ran, stepped, stepped_by, looked_up, after_lookup}
 use Rattle.hart.specs.Laws.{KeepsHonest, StaysHonest}
-use Rattle.hart.proofs.Agreeing.{found_or_not}
+use Rattle.hart.proofs.Agreeing.{found_or_not, load_cases, store_cases}
 use Rattle.hart.proofs.Staying.{lent_step, same_tables}
 
 -- after a step every entry is what a walk was before it
@@ -33,24 +32,10 @@ module _ (ws : List ℕ) (root : ℕ) where
     still address access = (honesty.find t.tlb ws root (address / 4096) access h).still
 
     load_held : (x : Context) (width : LoadWidth) (rd : Register) (address : ℕ) → Held ws root (load_ran x t ws root width rd address)
-    unfolding load_ran
-    load_held x width rd address = elim (cases_Bool (is_aligned (load_bytes width) address)) [
-      | inl a ↦ elim (found_or_not (looked_up t ws root address Load).frame) [
-        | inl f ↦ rw (a, f.1) (still address Load)
-        | inr e ↦ rw (a, e) (still address Load)
-      ]
-      | inr a ↦ rw a h
-    ]
+    load_held x width rd address = load_cases (Held ws root) x t ws root width rd address (λ _ _ _. still address Load) (λ _ _. still address Load) (λ _. h)
 
     store_held : (x : Context) (width : StoreWidth) (address value : ℕ) → Held ws root (store_ran x t ws root width address value)
-    unfolding store_ran
-    store_held x width address value = elim (cases_Bool (is_aligned (store_bytes width) address)) [
-      | inl a ↦ elim (found_or_not (looked_up t ws root address Store).frame) [
-        | inl f ↦ rw (a, f.1) (still address Store)
-        | inr e ↦ rw (a, e) (still address Store)
-      ]
-      | inr a ↦ rw a h
-    ]
+    store_held x width address value = store_cases (Held ws root) x t ws root width address value (λ _ _ _. still address Store) (λ _ _. still address Store) (λ _. h)
 
     executed_held : (x : Context) (d : Doing) → Held ws root (executed x t ws root d)
     unfolding executed

@@ -1,5 +1,5 @@
 -- The memories of the example meet the premises of the laws.
-use Rattle.std.proofs.Common.{◌≡◌, ℕ, ◌+◌, ◌*◌, ◌/◌, ◌<◌, ◌≤◌, true, ltb, ◌≢◌, ◌⊎◌, List, get_or, length, replicate, sym, refl, ap, ◌∙◌, subst, inl, inr, arith}
+use Rattle.std.proofs.Common.{◌≡◌, ℕ, ◌+◌, ◌*◌, ◌/◌, ◌<◌, ◌≤◌, true, ltb, ◌≢◌, ◌⊎◌, List, get_or, length, sym, refl, ap, ◌∙◌, subst, inl, inr, arith}
 use Rattle.std.proofs.lemmas.List.{get_or-replicate, get_or-set_other, length-set}
 use Rattle.std.proofs.lemmas.Bool.{cases_eq, true≢false}
 use Rattle.words.specs.Frames.{word, written}
@@ -8,6 +8,7 @@ use Rattle.paging.specs.Entries.{flag, frame_of, is_valid}
 use Rattle.paging.specs.Mapping.{LeafEntry, Maps, Pointer}
 use Rattle.paging.specs.Tables.{KernelFrame, Names, PointsTo}
 use Rattle.hart.specs.Laws.{SameOwn, TablesApart}
+use Rattle.hart.specs.Mapped.{mapped_in}
 use Rattle.hart.specs.Example.{Example, five_frames}
 
 not_valid : is_valid 0 ≡ true → ⊥
@@ -19,28 +20,16 @@ no_leaf : (leaf : Leaf) → LeafEntry 0x10D5 leaf → ⊥
 unfolding flag
 no_leaf leaf l = true≢false (sym (l.not_write_only (sym l.writable)) ∙ sym l.readable)
 
-abbrev with_root : List ℕ
-with_root = written (replicate 5120 0) 0 0 0x401
-
-abbrev with_code : List ℕ
-with_code = written with_root 1 16 0x8DB
-
-abbrev with_data : List ℕ
-with_data = written with_code 1 17 0xCD7
-
 abbrev four_words : List ℕ
-four_words = written with_data 1 18 0x10D5
+four_words = written (mapped_in 5120) 1 18 0x10D5
 
 module _ (c : ℕ) where
   -- the words that are not named above are 0
   blank : (i : ℕ) → i < 4096 → i ≢ 0 → i ≢ 1040 → i ≢ 1041 → i ≢ 1042 → get_or (five_frames c) i 0 ≡ 0
   blank i l a b d e =
-      get_or-set_other four_words 4096 i c 0 (omega arith)
-      ∙ get_or-set_other with_data 1042 i 0x10D5 0 e
-      ∙ get_or-set_other with_code 1041 i 0xCD7 0 d
-      ∙ get_or-set_other with_root 1040 i 0x8DB 0 b
-      ∙ get_or-set_other (replicate 5120 0) 0 i 0x401 0 a
-      ∙ get_or-replicate 5120 i 0 0 (omega arith)
+      let f : i ≢ 4096 = omega arith in
+      let inside : i < 5120 = omega arith in
+      simp (get_or-set_other, get_or-replicate)
 
   root_blank : (k : ℕ) → k < 1024 → k ≢ 0 → word (five_frames c) 0 k ≡ 0
   root_blank k l ne = let n : k ≡ 0 → ⊥ = ne in blank (0 * 1024 + k) (omega arith) (omega arith) (omega arith) (omega arith) (omega arith)

@@ -1,11 +1,10 @@
 -- What a load leaves, and a step that costs less than a walk.
-use Rattle.std.proofs.Common.{◌≡◌, ℕ, ◌/◌, ◌<◌, cond, false, true, Bool, ◌≤◌, List, Some, None, Option, sym, refl, ap, ◌∙◌, inl, inr, arith}
+use Rattle.std.proofs.Common.{◌≡◌, ℕ, ◌/◌, ◌<◌, List, Some, None, Option, sym, refl, ap, inl, inr, arith}
 use Rattle.std.proofs.lemmas.Bool.{cases_Bool}
 use Rattle.words.specs.Costs.{page_walk}
 use Rattle.isa.specs.declared.register.Register.{Register}
 use Rattle.isa.specs.declared.instruction.Instruction.{Instruction}
 use Rattle.isa.specs.declared.instruction.LoadWidth.{LoadWidth}
-use Rattle.isa.specs.declared.instruction.StoreWidth.{StoreWidth}
 use Rattle.isa.specs.Decoding.{decoded}
 use Rattle.paging.specs.declared.access.Access.{Access}
 use Rattle.paging.specs.declared.access.Access.TheVariants.{Fetch, Load, Store}
@@ -16,22 +15,14 @@ use Rattle.tables.proofs.Truth.{cheap_look, known_hit}
 use Rattle.hart.specs.declared.context.Context.{Context}
 use Rattle.hart.specs.declared.step.Core.{Core}
 use Rattle.hart.specs.Execution.{Doing, sets, jumps, branches, loads, stores, doing, misses_target}
-use Rattle.hart.specs.Memory.{is_aligned, load_bytes, store_bytes}
-use Rattle.hart.specs.Core.{Ran, after_lookup, decoded_ran, executed, faulted, load_found, load_ran, looked_up, run_from, store_found, store_ran, word_ran}
-use Rattle.hart.proofs.Agreeing.{found_or_not}
+use Rattle.hart.specs.Core.{Ran, after_lookup, decoded_ran, executed, faulted, load_ran, looked_up, run_from, word_ran}
+use Rattle.hart.proofs.Agreeing.{load_cases, store_cases}
 
 -- a load changes no word
 pub load_words : (x : Context) (t : Tables) (ws : List ℕ) (root : ℕ) (width : LoadWidth) (rd : Register) (address : ℕ) → (load_ran x t ws root width rd address).words ≡ ws
-unfolding load_ran
-load_words x t ws root width rd address = elim (cases_Bool (is_aligned (load_bytes width) address)) [
-  | inl a ↦ elim (found_or_not (looked_up t ws root address Load).frame) [ inl f ↦ simp (a, f.1) | inr e ↦ simp (a, e) ]
-  | inr a ↦ simp a
-]
+load_words x t ws root width rd address = load_cases (λ r. r.words ≡ ws) x t ws root width rd address (λ _ _ _. refl) (λ _ _. refl) (λ _. refl)
 
--- what costs at least so much and has the TLB of these tables; and what has it if it costs less than a walk
-abbrev Walked : Tables → ℕ → Ran → Type 0
-Walked t cost r = (cost ≤ r.cost) × (r.tables.tlb ≡ t.tlb)
-
+-- what has the TLB of these tables if it costs less than a walk
 abbrev Cheap : Tables → Ran → Type 0
 Cheap t r = r.cost < page_walk → r.tables.tlb ≡ t.tlb
 
@@ -40,31 +31,15 @@ module _ (x : Context) (t : Tables) (ws : List ℕ) (root : ℕ) where
   cheap : (address : ℕ) (access : Access) → (looked_up t ws root address access).cost < page_walk → (after_lookup t ws root address access).tlb ≡ t.tlb
   cheap address access = cheap_look t.tlb (address / 4096) access (walked ws root (address / 4096))
 
-  load_costs : (t' : Tables) (width : LoadWidth) (rd : Register) (address : ℕ) (o : Option ℕ) (cost : ℕ) → Walked t' cost (load_found x t' ws width rd address o cost)
-  load_costs t' width rd address None cost = (omega arith, refl)
-  load_costs t' width rd address (Some frame) cost = (omega arith, refl)
-
-  store_costs : (t' : Tables) (width : StoreWidth) (address value : ℕ) (o : Option ℕ) (cost : ℕ) → Walked t' cost (store_found x t' ws width address value o cost)
-  store_costs t' width address value None cost = (omega arith, refl)
-  store_costs t' width address value (Some frame) cost = (omega arith, refl)
-
-  -- an access whose address is aligned is what follows its look-up, and one whose address is not looks nothing up
-  cheap_access : (aligned : Bool) (address : ℕ) (access : Access) (r s : Ran) →
-      Walked (after_lookup t ws root address access) (looked_up t ws root address access).cost r → s.tables.tlb ≡ t.tlb → Cheap t (cond aligned r s)
-  cheap_access true address access r s c e l = c.1 ∙ cheap address access (omega (arith, c.0, l))
-  cheap_access false address access r s c e l = e
-
   cheap_doing : (d : Doing) → Cheap t (executed x t ws root d)
-  unfolding executed load_ran store_ran
+  unfolding executed
   cheap_doing (sets rd value) l = refl
   cheap_doing (jumps rd target) l = refl
   cheap_doing (branches taken target) l = elim (cases_Bool (misses_target taken target)) [ inl a ↦ rw a refl | inr a ↦ rw a refl ]
   cheap_doing (loads width rd address) l =
-      cheap_access (is_aligned (load_bytes width) address) address Load _ _
-      (load_costs (after_lookup t ws root address Load) width rd address (looked_up t ws root address Load).frame (looked_up t ws root address Load).cost) refl l
+      load_cases (Cheap t) x t ws root width rd address (λ frame _ _ m. cheap address Load (omega (arith, m))) (λ _ _ m. cheap address Load m) (λ _ _. refl) l
   cheap_doing (stores width address value) l =
-      cheap_access (is_aligned (store_bytes width) address) address Store _ _
-      (store_costs (after_lookup t ws root address Store) width address value (looked_up t ws root address Store).frame (looked_up t ws root address Store).cost) refl l
+      store_cases (Cheap t) x t ws root width address value (λ frame _ _ m. cheap address Store (omega (arith, m))) (λ _ _ m. cheap address Store m) (λ _ _. refl) l
 
   cheap_decoded : (clock : ℕ) (o : Option Instruction) → Cheap t (decoded_ran x t ws root clock o)
   cheap_decoded clock None l = refl

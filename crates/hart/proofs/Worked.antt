@@ -18,6 +18,10 @@ worked = record {
   not_taken = refl;
   falls_through = refl;
   rounds = refl;
+  stores = refl;
+  evicts = refl;
+  again = refl;
+  evicted_in_all = refl;
   most = refl;
   in_all = refl;
 }

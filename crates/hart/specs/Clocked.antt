@@ -1,9 +1,10 @@
 -- What instructions cost: a program that reads the clock around its loads, branches alone, and the dearest load.
-use Rattle.std.specs.Prelude.{◌≡◌, ℕ, zero, suc, ◌+◌, List, replicate}
+use Rattle.std.specs.Prelude.{◌≡◌, ℕ, zero, suc, ◌+◌, List}
 use Rattle.words.specs.Frames.{written}
 use Rattle.isa.specs.Registers.{held, register}
 use Rattle.tables.specs.First.{first_tables}
 use Rattle.hart.specs.Execution.{fresh}
+use Rattle.hart.specs.Mapped.{mapped, mapped_in}
 use Rattle.hart.specs.Core.{Ran, ran, stepped}
 
 -- a program that ran for some steps, and the clock
@@ -20,10 +21,6 @@ next_moment root m = record {
 unfoldable pub after : ℕ → ℕ → Moment → Moment
 after root zero m = m
 after root (suc n) m = next_moment root (after root n m)
-
--- frame 0 is the root, frame 1 its table, page 16 is frame 2 with R and X, and page 17 is frame 3 with R and W
-abbrev pub mapped : List ℕ
-mapped = written (written (written (replicate 4096 0) 0 0 0x401) 1 16 0x8DB) 1 17 0xCD7
 
 -- LUI x2, 17; rdcycle x5; LW x6, 0(x2); a fourth word; rdcycle x8
 abbrev pub program : ℕ → List ℕ
@@ -52,9 +49,20 @@ four_pages = written (written mapped 1 18 0x8DB) 1 19 0x8DB
 abbrev pub dear : List ℕ
 dear = written (written (written (written (written four_pages 2 0 0x00011137) 2 1 0x000131B7) 2 2 0x00012023) 2 3 0x0040206F) 2 4 0x0001A303
 
+-- page 18 is a frame of its own, frame 4, with R and W: LUI x2, 17; SW x0, 0(x2); LUI x3, 18; LW x6, 0(x3), whose line has the place of the one that was stored to; LW x6, 0(x3)
+abbrev pub evicting : List ℕ
+evicting =
+    let words = written (mapped_in 5120) 1 18 0x10D7 in
+    written (written (written (written (written words 2 0 0x00011137) 2 1 0x00012023) 2 2 0x000121B7) 2 3 0x0001A303) 2 4 0x0001A303
+
+-- what the n-th instruction of that program costs
+abbrev pub evicting_cost : ℕ → ℕ
+evicting_cost n = (after 0 n (begin evicting)).at.cost
+
 -- the first instruction costs 31, the first load 51, and a second load of the same line 1; one of the next line 21.
 -- A counter begins at 1, which predicts not taken: BEQ x0, x0, 8, which is taken, costs 3 besides, and BNE x0, x0, 8 nothing.
 -- BEQ x0, x0, 0 goes round on the spot, and from the second round on it is predicted.
+-- A store whose page and line are missing costs 51, a load whose page and line are missing and that evicts a dirty line 61, and 1 when repeated.
 -- The most that an instruction can cost is met: a load whose code page, data page and line are missing, over a dirty line
 pub record Clocked : Type 0 where
   pub first_read : register_after 0x00012383 2 5 ≡ 31
@@ -66,5 +74,9 @@ pub record Clocked : Type 0 where
   pub not_taken : (alone 0x00001463 1).clock ≡ 31
   pub falls_through : (alone 0x00001463 1).at.context.pc ≡ 0x10004
   pub rounds : (alone 0x00000063 4).clock ≡ 37
+  pub stores : evicting_cost 2 ≡ 51
+  pub evicts : evicting_cost 4 ≡ 61
+  pub again : evicting_cost 5 ≡ 1
+  pub evicted_in_all : (after 0 5 (begin evicting)).clock ≡ 145
   pub most : (after 0 5 (begin dear)).at.cost ≡ 91
   pub in_all : (after 0 5 (begin dear)).clock ≡ 175

@@ -1,13 +1,13 @@
 -- Memories to which the laws of a step apply, and what makes no difference in them.
-use Rattle.std.specs.Prelude.{ℕ, List, replicate}
+use Rattle.std.specs.Prelude.{ℕ, List}
 use Rattle.words.specs.Frames.{written}
 use Rattle.paging.specs.Tables.{Names}
 use Rattle.hart.specs.Laws.{SameOwn, TablesApart}
+use Rattle.hart.specs.Mapped.{mapped_in}
 
--- frame 0 is the root, frame 1 its table, page 16 is frame 2 with R and X, page 17 is frame 3 with R and W,
--- and page 18 names frame 4 with W and without R, so that no access reaches it
+-- in five frames page 18 names frame 4 with W and without R, so that no access reaches it
 abbrev pub five_frames : ℕ → List ℕ
-five_frames content = written (written (written (written (written (replicate 5120 0) 0 0 0x401) 1 16 0x8DB) 1 17 0xCD7) 1 18 0x10D5) 4 0 content
+five_frames content = written (written (mapped_in 5120) 1 18 0x10D5) 4 0 content
 
 -- the tables name none of themselves; and whatever a frame holds that they name and no page maps to, the programs of the root see the same
 pub record Example : Type 0 where

@@ -1,12 +1,14 @@
 -- What one step comes to.
-use Rattle.std.specs.Prelude.{◌≡◌, ℕ, ◌<◌, true, ◌⊎◌, List}
+use Rattle.std.specs.Prelude.{◌≡◌, ℕ, ◌+◌, ◌*◌, ◌^◌, ◌<◌, true, ◌⊎◌, List}
 use Rattle.words.specs.Frames.{word, written}
+use Rattle.isa.specs.declared.instruction.Counter.TheVariants.{Cycle, Time, CycleHigh}
 use Rattle.tables.specs.declared.Tables.{Tables}
 use Rattle.tables.specs.Honest.{Honest}
 use Rattle.paging.specs.declared.leaf.Leaf.{Leaf}
 use Rattle.paging.specs.Mapping.{Maps}
 use Rattle.paging.specs.Tables.{KernelFrame, Names, SameLent, SameTables}
 use Rattle.hart.specs.declared.context.Context.{Context}
+use Rattle.hart.specs.Execution.{counter_value}
 use Rattle.hart.specs.Architecture.{architecture}
 use Rattle.hart.specs.Core.{stepped}
 
@@ -84,3 +86,10 @@ pub record Next (x : Context) (t : Tables) (ws : List ℕ) (root clock : ℕ) : 
 
 abbrev pub StaysOwn : Type 0
 StaysOwn = (x : Context) (t : Tables) (ws : List ℕ) (root clock : ℕ) → TablesApart ws root → Honest t.tlb ws root → Next x t ws root clock
+
+-- rdcycle and rdcycleh read the two halves of the clock, and rdtime what rdcycle does; while the clock has 64 bits each half has 32
+pub record ClockHalves : Type 0 where
+  pub joined : (clock : ℕ) → counter_value Cycle clock + 2 ^ 32 * counter_value CycleHigh clock ≡ clock
+  pub time : (clock : ℕ) → counter_value Time clock ≡ counter_value Cycle clock
+  pub low : (clock : ℕ) → counter_value Cycle clock < 2 ^ 32
+  pub high : (clock : ℕ) → clock < 2 ^ 64 → counter_value CycleHigh clock < 2 ^ 32

@@ -25,7 +25,7 @@ fn counter_value(counter: Counter, clock: u64) -> u32
 {
     match counter {
         Counter::Cycle | Counter::Time => (clock % (1 << 32)) as u32,
-        Counter::CycleHigh => (clock >> 32) as u32,
+        Counter::CycleHigh => (clock / (1 << 32)) as u32,
     }
 }
 

@@ -1,8 +1,10 @@
 // What the definitions of this crate come to, owed by this function's contract.
+ghost use Rattle.hart.specs.Bytes.{LoadsBytes, StoresBytes};
 ghost use Rattle.hart.specs.Clocked.{Clocked};
 ghost use Rattle.hart.specs.Example.{Example};
-ghost use Rattle.hart.specs.Laws.{Agreement, KeepsHonest, SeesOwn, StaysHonest, StaysOwn, WritesOwn};
-ghost use Rattle.hart.specs.Steps.{StayWhole, Steps};
+ghost use Rattle.hart.specs.Laws.{Agreement, ClockHalves, KeepsHonest, SeesOwn, StaysHonest, StaysOwn, WritesOwn};
+ghost use Rattle.hart.specs.Meant.{Meant};
+ghost use Rattle.hart.specs.Steps.{StayWhole, Steps, UsesTables};
 
 pub fn laws()
     ensures agreement { Agreement }
@@ -15,4 +17,9 @@ pub fn laws()
     ensures stays { StaysOwn }
     ensures steps { Steps }
     ensures whole { StayWhole }
+    ensures uses { UsesTables }
+    ensures meant { Meant }
+    ensures loads { LoadsBytes }
+    ensures stores { StoresBytes }
+    ensures halves { ClockHalves }
 {}

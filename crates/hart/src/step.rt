@@ -6,13 +6,13 @@ ghost use Rattle.tables.specs.Tlb.{found, hit};
 ghost use Rattle.hart.specs.Core.{faulted, first_core, later, looked_up, on, run_from, step_of, with_ran, word_ran};
 
 use crate::cause::Cause;
-use crate::context::{Context, State};
+use crate::context::Context;
+use crate::stepper::Stepper;
 use isa::decoder::Decoder;
 use paging::access::Access;
 use paging::translate::PAGE_BYTES;
 use tables::Tables;
 use tables::tlb::Lookup;
-use words::costs::INSTRUCTION;
 use words::frames;
 
 // What parts the places of one program from those of the next.
@@ -49,28 +49,10 @@ impl Core {
         ensures core { self.new ≡ later self.old (step_of self.old words.old) }
         ensures words { words.new ≡ (step_of self.old words.old).words }
     {
-        let cost = self.run(words, decoder);
-        self.clock = self.clock.wrapping_add(u64::from(cost));
+        let mut stepper = Stepper::new(*self);
+        let cost = stepper.step(words, decoder);
+        *self = stepper.core;
         cost
-    }
-
-    // A step at one reading of the clock.
-    #[tactic(auto, unfolding(crate::specs::Core::stepped, crate::specs::Core::fetch_ran))]
-    fn run(&mut self, words: &mut [u32], decoder: &mut Decoder) -> u32
-        ensures cost { result ≡ (step_of self.old words.old).cost }
-        ensures least { instruction ≤ result }
-        ensures most { result ≤ highest }
-        ensures core { self.new ≡ with_ran self.old (step_of self.old words.old) }
-        ensures words { words.new ≡ (step_of self.old words.old).words }
-    {
-        if let State::Stopped { .. } = self.context.state {
-            return INSTRUCTION;
-        }
-        let found = self.look_up(words, self.context.pc, Access::Fetch);
-        let Some(frame) = found.frame else {
-            return INSTRUCTION + found.cost;
-        };
-        INSTRUCTION + found.cost + self.run_in(frame, words, decoder)
     }
 
     // The instruction at the counter, whose page is in a frame.

@@ -1,0 +1,16 @@
+-- The instructions of Meant, worked out.
+use Rattle.std.proofs.Common.{refl}
+use Rattle.paging.specs.Entries.{flag}
+use Rattle.paging.specs.Walks.{translated, walked}
+use Rattle.hart.specs.Architecture.{architecture}
+use Rattle.hart.specs.Meant.{Meant}
+
+pub meant : Meant
+unfolding flag walked translated architecture
+meant = record {
+  loads = record { lb = refl; lb_positive = refl; lbu = refl; lh = refl; lhu = refl };
+  stores = record { sb = refl; sh = refl };
+  jumps = record { jal_link = refl; jal_target = refl; jalr_link = refl; jalr_target = refl; blt = refl };
+  operations = record { auipc = refl; next = refl; sub = refl; sltiu = refl; rdcycle = refl; rdtime = refl; rdcycleh = refl };
+  stops = record { illegal = refl; fetch_misaligned = refl; no_link = refl; stays = refl; branch_misaligned = refl; not_taken = refl; fetch_fault = refl; load_misaligned = refl; load_fault = refl; keeps = refl; store_misaligned = refl; store_fault = refl };
+}
