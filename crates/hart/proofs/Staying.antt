@@ -1,10 +1,10 @@
 -- Page tables that a step leaves as they are.
-use Rattle.std.proofs.Common.{◌≡◌, ℕ, ◌/◌, ltb, List, sym, ap, ◌∙◌, inl, inr}
+use Rattle.std.proofs.Common.{◌≡◌, ℕ, ◌/◌, ltb, List, sym, ap, ◌∙◌}
 use Rattle.words.specs.Frames.{lent}
 use Rattle.paging.specs.declared.leaf.Leaf.{Leaf}
 use Rattle.paging.specs.Mapping.{Maps}
-use Rattle.paging.specs.Tables.{KernelFrame, Owns, SameTables}
-use Rattle.paging.proofs.Agree.{tables_decide}
+use Rattle.paging.specs.Tables.{SameTables}
+use Rattle.paging.proofs.Agree.{kernel_there, names_there, owns_there, tables_back, tables_decide}
 use Rattle.paging.proofs.Found.{maps_walk, walk_maps}
 use Rattle.tables.specs.declared.Tables.{Tables}
 use Rattle.tables.specs.Honest.{Honest}
@@ -19,22 +19,12 @@ use Rattle.hart.proofs.Writing.{writes_own}
 pub lent_step : (x : Context) (t : Tables) (ws : List ℕ) (root clock frame : ℕ) → lent (stepped x t ws root clock).words frame ≡ lent ws frame
 lent_step x t ws root clock frame = ap (λ n. ltb frame (n / 1024)) (steps x t ws root clock).as_many
 
--- frames of the root in one memory are so in another with the same tables
-module _ (ws vs : List ℕ) (root : ℕ) (same : SameTables ws vs root) where
-  kernel_too : (frame : ℕ) → KernelFrame ws root frame → KernelFrame vs root frame
-  kernel_too frame (inl e) = inl e
-  kernel_too frame (inr points) = inr ((tables_decide ws vs root same).points_to frame points)
-
-  owns_too : (frame : ℕ) → Owns ws root frame → Owns vs root frame
-  owns_too frame (inl kernel) = inl (kernel_too frame kernel)
-  owns_too frame (inr names) = inr ((tables_decide ws vs root same).names frame names)
-
 module _ (x : Context) (t : Tables) (ws : List ℕ) (root clock : ℕ) (apart : TablesApart ws root) (h : Honest t.tlb ws root) where
   pub same_tables : SameTables ws (stepped x t ws root clock).words root
   same_tables frame k kernel l = (writes_own x t ws root clock h).others frame k (λ names. apart frame names kernel) l
 
   back : SameTables (stepped x t ws root clock).words ws root
-  back = (tables_decide ws (stepped x t ws root clock).words root same_tables).back
+  back = tables_back ws (stepped x t ws root clock).words root same_tables
 
   -- what a page maps to after the step it mapped to before
   maps_back : (page : ℕ) (leaf : Leaf) → Maps (stepped x t ws root clock).words root page leaf → Maps ws root page leaf
@@ -47,8 +37,8 @@ module _ (x : Context) (t : Tables) (ws : List ℕ) (root clock : ℕ) (apart : 
       let after = (stepped x t ws root clock).words in
       let step = sees_own x t ws vs root clock h own in
       record {
-        tables = λ frame k kernel l. step.words frame k (own.tables frame k (kernel_too after ws root back frame kernel) l);
-        lent = λ frame c. lent_step x t vs root clock frame ∙ own.lent frame (owns_too after ws root back frame c) ∙ sym (lent_step x t ws root clock frame);
+        tables = λ frame k kernel l. step.words frame k (own.tables frame k (kernel_there after ws root back frame kernel) l);
+        lent = λ frame c. lent_step x t vs root clock frame ∙ own.lent frame (owns_there after ws root back frame c) ∙ sym (lent_step x t ws root clock frame);
         mapped = λ page k leaf m l. step.words leaf.frame k (own.mapped page k leaf (maps_back page leaf m) l);
       }
 
@@ -58,6 +48,6 @@ stays_own x t ws root clock apart h =
     let home = back x t ws root clock apart h in
     record {
       tables = same_tables x t ws root clock apart h;
-      apart = λ frame names kernel. apart frame ((tables_decide after ws root home).names frame names) (kernel_too after ws root home frame kernel);
+      apart = λ frame names kernel. apart frame (names_there after ws root home frame names) (kernel_there after ws root home frame kernel);
       own = own_again x t ws root clock apart h;
     }
