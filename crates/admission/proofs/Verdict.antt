@@ -12,7 +12,7 @@ use Rattle.admission.specs.Admitted.{Admits, admitted, followed_by}
 module _ (bytes words image : List ℕ) where
   at_plan : (r : Result Accepted Refusal) → checked bytes words ≡ r → Judges bytes words r → Admits bytes words image (followed_by r (image_fault image))
   at_plan (Err e) h j = record {
-    accepts = λ l w. absurd (let z : ◌≡◌ {A = ℕ} 0 1 = (let q = j.accepts l in cc) in omega arith);
+    accepts = λ l w. absurd (let q = j.accepts l in cc);
     cases = inl j.cases;
   }
   at_plan (Ok p) h j = elim (image_cases image) [

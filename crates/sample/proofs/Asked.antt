@@ -38,7 +38,7 @@ decided None (Some d) c f g e x h = cc
 decided None None (Some d) f g e x h = cc
 decided None None None (Some d) g e x h = cc
 decided None None None None (Some d) e x h = cc
-decided None None None None None e x h = absurd (let z : ◌≡◌ {A = ℕ} 0 1 = cc in omega arith)
+decided None None None None None e x h = absurd (cc)
 
 module _ (bytes ws : List ℕ) where
   unfoldable pub faults : Option Refusal
