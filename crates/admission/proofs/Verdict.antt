@@ -1,5 +1,5 @@
 -- The answer on a plan, its words and their image is the verdict that the rules ask for.
-use Rattle.std.proofs.Common.{◌≡◌, ℕ, List, Ok, Err, Result, refl, inl, inr, arith}
+use Rattle.std.proofs.Common.{◌≡◌, ℕ, List, Ok, Err, Result, refl, inl, inr}
 use Rattle.plan.specs.declared.refusal.Refusal.{Refusal}
 use Rattle.checker.specs.declared.Accepted.{Accepted}
 use Rattle.checker.specs.Checked.{checked}
