@@ -69,14 +69,14 @@ module _ (ws : List ℕ) (f : ℕ) where
   pub missing_unlent : f < 256 → (Lent ws f → ⊥) → frame_fault ws f ≡ Some NotLent
   missing_unlent l missing = rw (lt-ltb f 256 l, not_lent missing) refl
 
--- what the fault of a table's entries says
-bad_none : (b : Bool) → ◌≡◌ {A = Option Fault} (cond b (Some Broken) None) None → b ≡ false
-bad_none true e = absurd (cc)
-bad_none false e = refl
+-- a fault where a test passes
+pub faulty_none : (b : Bool) → ◌≡◌ {A = Option Fault} (cond b (Some Broken) None) None → b ≡ false
+faulty_none true e = absurd (cc)
+faulty_none false e = refl
 
-bad_lent : (b : Bool) → ◌≡◌ {A = Option Fault} (cond b (Some Broken) None) (Some NotLent) → ⊥
-bad_lent true e = cc
-bad_lent false e = cc
+pub faulty_unlent : (b : Bool) → ◌≡◌ {A = Option Fault} (cond b (Some Broken) None) (Some NotLent) → ⊥
+faulty_unlent true e = cc
+faulty_unlent false e = cc
 
 -- what a fault of an entry says: valid, a pointer, the fault of its table
 module _ where
@@ -109,7 +109,7 @@ module _ (ws : List ℕ) where
   unfolding table_fault
   fault_none t e =
       let z = or_none (frame_fault ws t) (cond (bad_table ws t) (Some Broken) None) e in
-      (none_there ws t z.0, table_good ws t (bad_none (bad_table ws t) z.1))
+      (none_there ws t z.0, table_good ws t (faulty_none (bad_table ws t) z.1))
 
   none_fault : (t : ℕ) → InMemory ws t → TableFormed ws t → table_fault ws t ≡ None
   unfolding table_fault
@@ -119,7 +119,7 @@ module _ (ws : List ℕ) where
   unfolding table_fault
   fault_unlent t e = elim (or_some (frame_fault ws t) (cond (bad_table ws t) (Some Broken) None) NotLent e) [
     | inl h ↦ unlent_missing ws t h
-    | inr h ↦ absurd (bad_lent (bad_table ws t) h.1)
+    | inr h ↦ absurd (faulty_unlent (bad_table ws t) h.1)
   ]
 
   unlent_fault : (t : ℕ) → t < 256 → (Lent ws t → ⊥) → table_fault ws t ≡ Some NotLent
