@@ -1,10 +1,10 @@
 -- Each rule of the plan is a stage of a chain of rules.
-use Rattle.std.proofs.Common.{◌≡◌, ℕ, ◌-◌, ◌/◌, ◌<◌, ◌≤◌, true, List, length, Decides, Option, sym, refl, ap, ◌∙◌, subst, inl, inr, arith}
+use Rattle.std.proofs.Common.{◌≡◌, ℕ, zero, suc, ◌+◌, ◌*◌, ◌<◌, ◌≤◌, true, List, length, Decides, Option, sym, refl, ap, ◌∙◌, subst, inl, inr, arith}
 use Rattle.std.proofs.lemmas.Bool.{cases_eq, both_ways}
 use Rattle.std.proofs.lemmas.Bool.Decides.{nat_tests}
 use Rattle.words.specs.Costs.{message, switch}
 use Rattle.words.specs.First.{first, most}
-use Rattle.words.proofs.First.{most_below, most_bound}
+use Rattle.words.proofs.First.{most_bound}
 use Rattle.plan.specs.declared.model.Plan.{Plan}
 use Rattle.plan.specs.declared.refusal.Count.{Count}
 use Rattle.plan.specs.declared.refusal.Count.TheVariants.{Partitions, Slots, Channels}
@@ -58,12 +58,13 @@ pub start_decides : (p : Plan) (k : ℕ) → Decides (start_kept p k) (StartFits
 start_decides p k = ((λ e. grind (arith, nat_tests)), λ f. grind (arith, nat_tests))
 
 -- a budget that covers the switch after every partition's slot covers the longest
+longest_covered : (sends : ℕ → ℕ) (n budget : ℕ) → switch ≤ budget → ((who : ℕ) → who < n → switch + message * sends who ≤ budget) → switch + message * most sends n ≤ budget
+unfolding most
+longest_covered sends zero budget alone each = omega (arith, alone)
+longest_covered sends (suc n) budget alone each = omega (arith, longest_covered sends n budget alone (λ who l. each who (omega arith)), each n (omega arith))
+
 pub ample_fits : (p : Plan) → BudgetFits p → ample p ≤ p.budget
-ample_fits p f =
-    let spare : ℕ = (p.budget - switch) / message in
-    let longest : most (channels_out p) p.counts.partitions ≤ spare =
-    most_below (channels_out p) p.counts.partitions spare (λ who l. omega (arith, f.2, f.3 who l)) in
-    omega (arith, f.2, longest)
+ample_fits p f = longest_covered (channels_out p) p.counts.partitions p.budget f.2 f.3
 
 budget_parts : (p : Plan) → budget_kept p ≡ true → (64 ≤ p.budget) × (p.budget ≤ 100000) × (ample p ≤ p.budget)
 budget_parts p e = (grind (arith, nat_tests), grind (arith, nat_tests), grind (arith, nat_tests))
