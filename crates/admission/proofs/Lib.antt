@@ -1,3 +1,4 @@
 -- The lemmas of this crate.
 pub mod Verdict
+mod Front
 mod Blank

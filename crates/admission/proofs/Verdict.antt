@@ -1,5 +1,5 @@
 -- The answer on a plan, its words and their image is the verdict that the rules ask for.
-use Rattle.std.proofs.Common.{◌≡◌, ℕ, List, Ok, Err, Result, refl, inl, inr, arith}
+use Rattle.std.proofs.Common.{◌≡◌, ℕ, List, Ok, Err, Result, refl, inl, inr}
 use Rattle.plan.specs.declared.refusal.Refusal.{Refusal}
 use Rattle.checker.specs.declared.Accepted.{Accepted}
 use Rattle.checker.specs.Checked.{checked}
@@ -12,7 +12,7 @@ use Rattle.admission.specs.Admitted.{Admits, admitted, followed_by}
 module _ (bytes words image : List ℕ) where
   at_plan : (r : Result Accepted Refusal) → checked bytes words ≡ r → Judges bytes words r → Admits bytes words image (followed_by r (image_fault image))
   at_plan (Err e) h j = record {
-    accepts = λ l w. absurd (let z : ◌≡◌ {A = ℕ} 0 1 = (let q = j.accepts l in cc) in omega arith);
+    accepts = λ l w. absurd (let q = j.accepts l in cc);
     cases = inl j.cases;
   }
   at_plan (Ok p) h j = elim (image_cases image) [

@@ -1,12 +1,14 @@
 -- The verdict on a plan, the words lent to it, and the image that they were loaded from.
-use Rattle.std.specs.Prelude.{◌≡◌, ℕ, ◌⊎◌, List, Ok, Err, Option, Result, MatchResult}
+use Rattle.std.specs.Prelude.{◌≡◌, ℕ, ◌<◌, ◌≤◌, ◌⊎◌, List, take, Ok, Err, Option, Result, MatchResult}
+use Rattle.words.specs.Bytes.{byte}
 use Rattle.words.specs.First.{unless}
 use Rattle.plan.specs.declared.refusal.Refusal.{Refusal}
 use Rattle.plan.specs.Format.{plan_of}
+use Rattle.plan.specs.Rules.{longest}
 use Rattle.checker.specs.declared.Accepted.{Accepted}
 use Rattle.checker.specs.Checked.{accepted, checked}
 use Rattle.checker.specs.Found.{FirstFound, Lawful, Sound}
-use Rattle.image.specs.Frames.{ImageBroken, Whole, image_fault, image_words}
+use Rattle.image.specs.Frames.{ImageBroken, Whole, front_size, image_fault, image_words}
 use Rattle.admission.specs.declared.Opened.{Opened}
 
 -- an answer, unless a later rule is broken
@@ -24,6 +26,13 @@ pub record Admits (bytes words image : List ℕ) (r : Result Accepted Refusal) :
   pub cases : MatchResult r
       (λ a. Sound bytes words a × Whole image)
       (λ e. FirstFound bytes words e ⊎ (Lawful bytes words × ImageBroken image e))
+
+-- the verdict on two files is that on their front parts: of the plan as many bytes as the longest has and one more, and of the image those that
+-- its count asks for and one more
+abbrev pub TellsAll : Type 0
+TellsAll =
+    (bytes image : List ℕ) (n m : ℕ) → ((i : ℕ) → byte bytes i < 256) → longest ≤ n → front_size image ≤ m →
+    admitted (take n bytes) (image_words (take m image)) (take m image) ≡ admitted bytes (image_words image) image
 
 -- what opening a plan with its image gives: the verdict on the plan with the words that the image lends, and with the plan those words
 abbrev pub Opens : List ℕ → List ℕ → Result Opened Refusal → Type 0

@@ -8,17 +8,24 @@ use Rattle.checker.specs.Found.{Lawful}
 use Rattle.image.specs.Frames.{Whole, image_words}
 use Rattle.admission.specs.Admitted.{admitted}
 
--- a count of two frames, and so many zeros
-abbrev pub two_and_zeros : ℕ → List ℕ
-two_and_zeros n = (2 ∷ 0 ∷ []) ++ replicate n 0
+-- a count of frames, and so many zeros
+abbrev pub zeros : ℕ → ℕ → List ℕ
+zeros count n = (count ∷ 0 ∷ []) ++ replicate n 0
 
 unfoldable pub blank : List ℕ
-blank = two_and_zeros 8192
+blank = zeros 2 8192
+
+-- two frames where three are counted, and a byte more than two frames
+unfoldable pub short : List ℕ
+short = zeros 3 8192
+
+unfoldable pub longer : List ℕ
+longer = zeros 2 8193
 
 pub record Example : Type 0 where
   pub lawful : Lawful example (image_words blank)
   pub whole : Whole blank
   pub admits : admitted example (image_words blank) blank ≡ Ok (accepted (image_words blank) (plan_of example))
-  -- with a byte less or a byte more in the image
-  pub byte_less : admitted example (image_words blank) (two_and_zeros 8191) ≡ Err FramesMissing
-  pub byte_more : admitted example (image_words blank) (two_and_zeros 8193) ≡ Err (Surplus 8194)
+  -- the plan may have the frames of these too, and their own rules are broken
+  pub frame_less : admitted example (image_words short) short ≡ Err FramesMissing
+  pub byte_more : admitted example (image_words longer) longer ≡ Err (Surplus 8194)

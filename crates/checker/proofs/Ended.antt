@@ -1,8 +1,8 @@
 -- The look-up of a channel's pages tells the frames that it joins.
-use Rattle.std.proofs.Common.{◌≡◌, ℕ, ◌+◌, ◌*◌, ◌/◌, ◌%◌, ◌<◌, Bool, true, false, cond, not, ◌&&◌, ltb, ◌⊎◌, List, Some, None, Ok, Err, Option, Result, sym, refl, ap, ◌∙◌, subst, inl, inr, arith}
+use Rattle.std.proofs.Common.{◌≡◌, ℕ, ◌+◌, ◌*◌, ◌/◌, ◌%◌, ◌<◌, Bool, true, false, cond, not, ◌&&◌, ltb, ◌⊎◌, List, Some, None, Ok, Err, Option, Result, sym, refl, ap, subst, inl, inr, arith}
 use Rattle.std.proofs.lemmas.Nat.{mod_below}
 use Rattle.std.proofs.lemmas.Bool.{lt-ltb, ltb-true, true≢false}
-use Rattle.words.specs.Frames.{lent, word}
+use Rattle.words.specs.Frames.{word}
 use Rattle.paging.specs.declared.leaf.Leaf.{Leaf}
 use Rattle.paging.specs.Entries.{frame_of, is_pointer, leaf_of}
 use Rattle.paging.specs.Mapping.{InMemory, LeafEntry, Pointer}
@@ -14,7 +14,7 @@ use Rattle.checker.specs.declared.fault.Fault.TheVariants.{Broken, NotLent}
 use Rattle.checker.specs.Faults.{frame_fault}
 use Rattle.checker.specs.Pages.{end_frame, if_read, leaf_below, looked_up, through, usable}
 use Rattle.checker.specs.Lawful.{EndUnread, Leads, Lent, PageUnread, Usable, root}
-use Rattle.checker.proofs.Forms.{lent_tells, not_lent}
+use Rattle.checker.proofs.Forms.{missing_unlent, none_there, there_none, unlent_missing}
 
 -- a step of the look-up: a test, a frame that can be read, and what follows
 module _ {X : Type 0} where
@@ -24,15 +24,15 @@ module _ {X : Type 0} where
   step_ok : (c : Bool) (o : Option Fault) (r : Result X Fault) (x : X) → step c o r ≡ Ok x → (c ≡ true) × (o ≡ None) × (r ≡ Ok x)
   unfolding step
   step_ok true None r x e = (refl, refl, e)
-  step_ok true (Some f) r x e = absurd (let z : ◌≡◌ {A = ℕ} 0 1 = cc in omega arith)
-  step_ok false o r x e = absurd (let z : ◌≡◌ {A = ℕ} 0 1 = cc in omega arith)
+  step_ok true (Some f) r x e = absurd (cc)
+  step_ok false o r x e = absurd (cc)
 
   step_unlent : (c : Bool) (o : Option Fault) (r : Result X Fault) → step c o r ≡ Err NotLent → (c ≡ true) × ((o ≡ Some NotLent) ⊎ ((o ≡ None) × (r ≡ Err NotLent)))
   unfolding step
   step_unlent true None r e = (refl, inr (refl, e))
-  step_unlent true (Some Broken) r e = absurd (let z : ◌≡◌ {A = ℕ} 0 1 = cc in omega arith)
+  step_unlent true (Some Broken) r e = absurd (cc)
   step_unlent true (Some NotLent) r e = (refl, inl refl)
-  step_unlent false o r e = absurd (let z : ◌≡◌ {A = ℕ} 0 1 = cc in omega arith)
+  step_unlent false o r e = absurd (cc)
 
   step_goes : (c : Bool) (o : Option Fault) (r s : Result X Fault) → c ≡ true → o ≡ None → r ≡ s → step c o r ≡ s
   unfolding step
@@ -42,44 +42,22 @@ module _ {X : Type 0} where
   unfolding step
   step_stops c o r a b = rw (a, b) refl
 
-frame_none : (a b : Bool) → cond a (cond b None (Some NotLent)) (Some Broken) ≡ None → (a ≡ true) × (b ≡ true)
-frame_none true true e = (refl, refl)
-frame_none true false e = absurd (let z : ◌≡◌ {A = ℕ} 0 1 = cc in omega arith)
-frame_none false b e = absurd (let z : ◌≡◌ {A = ℕ} 0 1 = cc in omega arith)
-
-frame_unlent : (a b : Bool) → cond a (cond b None (Some NotLent)) (Some Broken) ≡ Some NotLent → (a ≡ true) × (b ≡ false)
-frame_unlent true false e = (refl, refl)
-frame_unlent true true e = absurd (let z : ◌≡◌ {A = ℕ} 0 1 = cc in omega arith)
-frame_unlent false b e = absurd (let z : ◌≡◌ {A = ℕ} 0 1 = cc in omega arith)
-
-module _ (ws : List ℕ) (f : ℕ) where
-  none_there : frame_fault ws f ≡ None → InMemory ws f
-  none_there e = let z = frame_none (ltb f 256) (lent ws f) e in record { below = ltb-true f 256 z.0; lent = (lent_tells ws f).0 z.1 }
-
-  there_none : InMemory ws f → frame_fault ws f ≡ None
-  there_none m = rw (lt-ltb f 256 m.below, (lent_tells ws f).1 m.lent) refl
-
-  unlent_missing : frame_fault ws f ≡ Some NotLent → (f < 256) × (Lent ws f → ⊥)
-  unlent_missing e = let z = frame_unlent (ltb f 256) (lent ws f) e in (ltb-true f 256 z.0, λ h. true≢false (sym ((lent_tells ws f).1 h) ∙ z.1))
-
-  missing_unlent : f < 256 → (Lent ws f → ⊥) → frame_fault ws f ≡ Some NotLent
-  missing_unlent l missing = rw (lt-ltb f 256 l, not_lent ws f missing) refl
-
 below_ok : (b : Bool) (l leaf : Leaf) → ◌≡◌ {A = Result Leaf Fault} (cond b (Ok l) (Err Broken)) (Ok leaf) → (b ≡ true) × (l ≡ leaf)
 below_ok true l leaf e = (refl, cc)
-below_ok false l leaf e = absurd (let z : ◌≡◌ {A = ℕ} 0 1 = cc in omega arith)
+below_ok false l leaf e = absurd (cc)
 
-below_not : (b : Bool) (l : Leaf) → ◌≡◌ {A = Result Leaf Fault} (cond b (Ok l) (Err Broken)) (Err NotLent) → ⊥
-below_not true l e = let z : ◌≡◌ {A = ℕ} 0 1 = cc in omega arith
-below_not false l e = let z : ◌≡◌ {A = ℕ} 0 1 = cc in omega arith
+-- a test that fails breaks the rule
+never_unlent : {X : Type 0} (b : Bool) (x : X) → ◌≡◌ {A = Result X Fault} (cond b (Ok x) (Err Broken)) (Err NotLent) → ⊥
+never_unlent true x e = cc
+never_unlent false x e = cc
 
 leaf_ok : (o : Option Leaf) (leaf : Leaf) → leaf_below o ≡ Ok leaf → (o ≡ Some leaf) × (leaf.frame < 256)
-leaf_ok None leaf e = absurd (let z : ◌≡◌ {A = ℕ} 0 1 = cc in omega arith)
+leaf_ok None leaf e = absurd (cc)
 leaf_ok (Some l) leaf e = let z = below_ok (ltb l.frame 256) l leaf e in (ap Some z.1, subst (λ x. x.frame < 256) z.1 (ltb-true l.frame 256 z.0))
 
 leaf_lent : (o : Option Leaf) → leaf_below o ≡ Err NotLent → ⊥
-leaf_lent None e = let z : ◌≡◌ {A = ℕ} 0 1 = cc in omega arith
-leaf_lent (Some l) e = below_not (ltb l.frame 256) l e
+leaf_lent None e = cc
+leaf_lent (Some l) e = never_unlent (ltb l.frame 256) l e
 
 module _ (ws : List ℕ) (r page : ℕ) where
   looked_leads : (leaf : Leaf) → looked_up ws r page ≡ Ok leaf → Leads ws r page leaf
@@ -159,14 +137,10 @@ module _ (ws : List ℕ) (r page : ℕ) where
 -- what is said of an end
 permitted : (receives readable writable : Bool) (g f : ℕ) → ◌≡◌ {A = Result ℕ Fault} (cond (readable && not (receives && writable)) (Ok g) (Err Broken)) (Ok f) →
     (readable ≡ true) × (receives ≡ true → writable ≡ false) × (g ≡ f)
-permitted receives false writable g f e = absurd (let z : ◌≡◌ {A = ℕ} 0 1 = cc in omega arith)
-permitted true true true g f e = absurd (let z : ◌≡◌ {A = ℕ} 0 1 = cc in omega arith)
+permitted receives false writable g f e = absurd (cc)
+permitted true true true g f e = absurd (cc)
 permitted true true false g f e = (refl, (λ _. refl), cc)
 permitted false true writable g f e = (refl, (λ h. absurd (true≢false (sym h))), cc)
-
-never_unlent : (b : Bool) (g : ℕ) → ◌≡◌ {A = Result ℕ Fault} (cond b (Ok g) (Err Broken)) (Err NotLent) → ⊥
-never_unlent true g e = let z : ◌≡◌ {A = ℕ} 0 1 = cc in omega arith
-never_unlent false g e = let z : ◌≡◌ {A = ℕ} 0 1 = cc in omega arith
 
 allowed : (receives readable writable : Bool) → readable ≡ true → (receives ≡ true → writable ≡ false) → (readable && not (receives && writable)) ≡ true
 allowed true readable writable r w = rw (r, w refl) refl
@@ -174,7 +148,7 @@ allowed false readable writable r w = rw r refl
 
 usable_ok : (receives : Bool) (r : Result Leaf Fault) (f : ℕ) → usable receives r ≡ Ok f →
     (leaf : Leaf) × (r ≡ Ok leaf) × (leaf.readable ≡ true) × (receives ≡ true → leaf.writable ≡ false) × (leaf.frame ≡ f)
-usable_ok receives (Err x) f e = absurd (let z : ◌≡◌ {A = ℕ} 0 1 = cc in omega arith)
+usable_ok receives (Err x) f e = absurd (cc)
 usable_ok receives (Ok leaf) f e = let z = permitted receives leaf.readable leaf.writable leaf.frame f e in (leaf, refl, z.0, z.1, z.2)
 
 usable_unlent : (receives : Bool) (r : Result Leaf Fault) → usable receives r ≡ Err NotLent → r ≡ Err NotLent

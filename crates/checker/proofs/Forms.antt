@@ -2,15 +2,15 @@
 use Rattle.std.proofs.Common.{◌≡◌, ℕ, ◌<◌, Bool, true, false, cond, not, ◌&&◌, ltb, ◌⊎◌, List, Some, None, Decides, Option, sym, refl, ◌∙◌, subst, inl, inr, arith}
 use Rattle.std.proofs.lemmas.Bool.{cases_Bool, lt-ltb, ltb-true, true≢false}
 use Rattle.std.proofs.lemmas.Bool.Decides.{nat_tests}
-use Rattle.std.specs.Option.{option_or}
 use Rattle.words.specs.First.{first}
 use Rattle.words.specs.Frames.{lent, word}
-use Rattle.words.proofs.First.{all_not, below_none, first_is, first_stays, none_below, not_any}
+use Rattle.words.proofs.First.{all_not, below_none, first_is, first_stays, none_below, not_any, or_none, or_some}
 use Rattle.paging.specs.Entries.{frame_of, is_leaf, is_pointer, is_valid}
 use Rattle.paging.specs.Mapping.{InMemory, Pointer}
 use Rattle.paging.proofs.Tell.{pointer_tells}
 use Rattle.checker.specs.declared.fault.Fault.{Fault}
 use Rattle.checker.specs.declared.fault.Fault.TheVariants.{Broken, NotLent}
+use Rattle.checker.specs.Faults.{frame_fault}
 use Rattle.checker.specs.Tables.{bad_leaf_at, bad_table, entry_fault, entry_fault_at, root_fault, table_fault}
 use Rattle.checker.specs.Lawful.{EntryFits, Formed, Lent, TableFormed, TablesUnread}
 
@@ -42,24 +42,41 @@ unfolding bad_table
 good_table ws t h = all_not (bad_leaf_at ws t) 1024 (λ k l e.
     not_bad (is_valid (word ws t k)) (is_leaf (word ws t k)) (ltb (frame_of (word ws t k)) 256) (λ v. ((h k l v).0, lt-ltb (frame_of (word ws t k)) 256 (h k l v).1)) e)
 
--- what a fault of a table says of its tests: below 256, lent, bad
-module _ where
-  tested : Bool → Bool → Bool → Option Fault
-  tested a b c = option_or (cond a (cond b None (Some NotLent)) (Some Broken)) (cond c (Some Broken) None)
+-- what a frame's fault says of its tests: below 256, lent
+frame_none : (a b : Bool) → cond a (cond b None (Some NotLent)) (Some Broken) ≡ None → (a ≡ true) × (b ≡ true)
+frame_none true true e = (refl, refl)
+frame_none true false e = absurd (cc)
+frame_none false b e = absurd (cc)
 
-  tested_none : (a b c : Bool) → tested a b c ≡ None → (a ≡ true) × (b ≡ true) × (c ≡ false)
-  unfolding tested
-  tested_none true true false e = (refl, refl, refl)
-  tested_none true true true e = absurd (let z : ◌≡◌ {A = ℕ} 0 1 = cc in omega arith)
-  tested_none true false c e = absurd (let z : ◌≡◌ {A = ℕ} 0 1 = cc in omega arith)
-  tested_none false b c e = absurd (let z : ◌≡◌ {A = ℕ} 0 1 = cc in omega arith)
+frame_unlent : (a b : Bool) → cond a (cond b None (Some NotLent)) (Some Broken) ≡ Some NotLent → (a ≡ true) × (b ≡ false)
+frame_unlent true false e = (refl, refl)
+frame_unlent true true e = absurd (cc)
+frame_unlent false b e = absurd (cc)
 
-  tested_unlent : (a b c : Bool) → tested a b c ≡ Some NotLent → (a ≡ true) × (b ≡ false)
-  unfolding tested
-  tested_unlent true false c e = (refl, refl)
-  tested_unlent true true true e = absurd (let z : ◌≡◌ {A = ℕ} 0 1 = cc in omega arith)
-  tested_unlent true true false e = absurd (let z : ◌≡◌ {A = ℕ} 0 1 = cc in omega arith)
-  tested_unlent false b c e = absurd (let z : ◌≡◌ {A = ℕ} 0 1 = cc in omega arith)
+module _ (ws : List ℕ) (f : ℕ) where
+  pub none_there : frame_fault ws f ≡ None → InMemory ws f
+  none_there e = let z = frame_none (ltb f 256) (lent ws f) e in record { below = ltb-true f 256 z.0; lent = (lent_tells ws f).0 z.1 }
+
+  pub there_none : InMemory ws f → frame_fault ws f ≡ None
+  there_none m = rw (lt-ltb f 256 m.below, (lent_tells ws f).1 m.lent) refl
+
+  not_lent : (Lent ws f → ⊥) → lent ws f ≡ false
+  not_lent no_frame = elim (cases_Bool (lent ws f)) [ inl e ↦ absurd (no_frame ((lent_tells ws f).0 e)) | inr e ↦ e ]
+
+  pub unlent_missing : frame_fault ws f ≡ Some NotLent → (f < 256) × (Lent ws f → ⊥)
+  unlent_missing e = let z = frame_unlent (ltb f 256) (lent ws f) e in (ltb-true f 256 z.0, λ h. true≢false (sym ((lent_tells ws f).1 h) ∙ z.1))
+
+  pub missing_unlent : f < 256 → (Lent ws f → ⊥) → frame_fault ws f ≡ Some NotLent
+  missing_unlent l missing = rw (lt-ltb f 256 l, not_lent missing) refl
+
+-- a fault where a test passes
+pub faulty_none : (b : Bool) → ◌≡◌ {A = Option Fault} (cond b (Some Broken) None) None → b ≡ false
+faulty_none true e = absurd (cc)
+faulty_none false e = refl
+
+pub faulty_unlent : (b : Bool) → ◌≡◌ {A = Option Fault} (cond b (Some Broken) None) (Some NotLent) → ⊥
+faulty_unlent true e = cc
+faulty_unlent false e = cc
 
 -- what a fault of an entry says: valid, a pointer, the fault of its table
 module _ where
@@ -69,7 +86,7 @@ module _ where
   entered_none : (v q : Bool) (o : Option Fault) → entered v q o ≡ None → v ≡ true → (q ≡ true) × (o ≡ None)
   unfolding entered
   entered_none true true o e v = (refl, e)
-  entered_none true false o e v = absurd (let z : ◌≡◌ {A = ℕ} 0 1 = cc in omega arith)
+  entered_none true false o e v = absurd (cc)
   entered_none false q o e v = absurd (true≢false (sym v))
 
   none_entered : (v q : Bool) (o : Option Fault) → (v ≡ true → (q ≡ true) × (o ≡ None)) → entered v q o ≡ None
@@ -80,8 +97,8 @@ module _ where
   entered_unlent : (v q : Bool) (o : Option Fault) → entered v q o ≡ Some NotLent → (v ≡ true) × (q ≡ true) × (o ≡ Some NotLent)
   unfolding entered
   entered_unlent true true o e = (refl, refl, e)
-  entered_unlent true false o e = absurd (let z : ◌≡◌ {A = ℕ} 0 1 = cc in omega arith)
-  entered_unlent false q o e = absurd (let z : ◌≡◌ {A = ℕ} 0 1 = cc in omega arith)
+  entered_unlent true false o e = absurd (cc)
+  entered_unlent false q o e = absurd (cc)
 
   unlent_entered : (v q : Bool) (o : Option Fault) → v ≡ true → q ≡ true → o ≡ Some NotLent → entered v q o ≡ Some NotLent
   unfolding entered
@@ -89,27 +106,25 @@ module _ where
 
 module _ (ws : List ℕ) where
   pub fault_none : (t : ℕ) → table_fault ws t ≡ None → InMemory ws t × TableFormed ws t
-  unfolding table_fault tested
+  unfolding table_fault
   fault_none t e =
-      let z = tested_none (ltb t 256) (lent ws t) (bad_table ws t) e in
-      (record { below = ltb-true t 256 z.0; lent = (lent_tells ws t).0 z.1 }, table_good ws t z.2)
+      let z = or_none (frame_fault ws t) (cond (bad_table ws t) (Some Broken) None) e in
+      (none_there ws t z.0, table_good ws t (faulty_none (bad_table ws t) z.1))
 
   none_fault : (t : ℕ) → InMemory ws t → TableFormed ws t → table_fault ws t ≡ None
   unfolding table_fault
-  none_fault t m f = rw (lt-ltb t 256 m.below, (lent_tells ws t).1 m.lent, good_table ws t f) refl
+  none_fault t m f = rw (there_none ws t m, good_table ws t f) refl
 
   fault_unlent : (t : ℕ) → table_fault ws t ≡ Some NotLent → (t < 256) × (Lent ws t → ⊥)
-  unfolding table_fault tested
-  fault_unlent t e =
-      let z = tested_unlent (ltb t 256) (lent ws t) (bad_table ws t) e in
-      (ltb-true t 256 z.0, λ h. true≢false (sym ((lent_tells ws t).1 h) ∙ z.1))
-
-  pub not_lent : (t : ℕ) → (Lent ws t → ⊥) → lent ws t ≡ false
-  not_lent t no_frame = elim (cases_Bool (lent ws t)) [ inl e ↦ absurd (no_frame ((lent_tells ws t).0 e)) | inr e ↦ e ]
+  unfolding table_fault
+  fault_unlent t e = elim (or_some (frame_fault ws t) (cond (bad_table ws t) (Some Broken) None) NotLent e) [
+    | inl h ↦ unlent_missing ws t h
+    | inr h ↦ absurd (faulty_unlent (bad_table ws t) h.1)
+  ]
 
   unlent_fault : (t : ℕ) → t < 256 → (Lent ws t → ⊥) → table_fault ws t ≡ Some NotLent
   unfolding table_fault
-  unlent_fault t l no_frame = rw (lt-ltb t 256 l, not_lent t no_frame) refl
+  unlent_fault t l missing = rw (missing_unlent ws t l missing) refl
 
   entry_good : (e : ℕ) → entry_fault ws e ≡ None → EntryFits ws e
   unfolding entry_fault entered
@@ -128,7 +143,7 @@ module _ (ws : List ℕ) where
   module _ (root : ℕ) where
     formed_split : (b : Bool) (o : Option Fault) → cond b o (Some NotLent) ≡ None → (b ≡ true) × (o ≡ None)
     formed_split true o e = (refl, e)
-    formed_split false o e = absurd (let z : ◌≡◌ {A = ℕ} 0 1 = cc in omega arith)
+    formed_split false o e = absurd (cc)
 
     pub none_formed : root_fault ws root ≡ None → Formed ws root
     unfolding root_fault
@@ -171,7 +186,7 @@ module _ (ws : List ℕ) where
 
     pub unread_unlent : TablesUnread ws root → root_fault ws root ≡ Some NotLent
     unfolding root_fault
-    unread_unlent (TablesUnread.no_root missing) = rw (not_lent root missing) refl
+    unread_unlent (TablesUnread.no_root missing) = rw (not_lent ws root missing) refl
     unread_unlent (TablesUnread.no_table k t l p b missing before) = elim (cases_Bool (lent ws root)) [
       | inl e ↦ rw e (first_stays (entry_fault_at ws root) k 1024 NotLent l (below_none (entry_fault_at ws root) k (λ j h. good_entry (word ws root j) (before j h))) (at_table k t p b missing))
       | inr e ↦ rw e refl

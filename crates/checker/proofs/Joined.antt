@@ -1,24 +1,25 @@
 -- The rule on the pages of channels: its answer at a channel tells whether the pages fit, or cannot be looked up.
-use Rattle.std.proofs.Common.{◌≡◌, ℕ, Bool, true, false, cond, eqb, ◌⊎◌, List, Some, None, Ok, Err, Option, Result, sym, refl, ap, ◌∙◌, inl, inr, arith}
+use Rattle.std.proofs.Common.{◌≡◌, ℕ, true, false, eqb, ◌⊎◌, List, Some, None, Ok, Err, Result, sym, refl, ap, ◌∙◌, inl, inr}
 use Rattle.std.proofs.lemmas.Bool.{eq-eqb, eqb-true, or_cases, or_left, or_right, true≢false}
 use Rattle.words.specs.First.{any}
 use Rattle.words.proofs.First.{all_not, any_here}
 use Rattle.plan.specs.declared.model.Plan.{Plan}
 use Rattle.plan.specs.Rules.{channel}
 use Rattle.checker.specs.declared.fault.Fault.{Fault}
-use Rattle.checker.specs.declared.fault.Fault.TheVariants.{Broken, NotLent}
+use Rattle.checker.specs.declared.fault.Fault.TheVariants.{NotLent}
 use Rattle.checker.specs.declared.pages.Ends.{Ends}
 use Rattle.checker.specs.Pages.{behind, both_ends, end_frame, ends_or_none, meets, ends_fault, taken_fault, touch, touches}
 use Rattle.checker.specs.Lawful.{Joins, PagesFit, PagesUnread, Touch}
+use Rattle.checker.proofs.Forms.{faulty_none, faulty_unlent}
 use Rattle.checker.proofs.Ended.{end_unread, end_usable, unread_end, usable_end}
 
 both_ok : (r s : Result ℕ Fault) (a : Ends) → both_ends r s ≡ Ok a → (r ≡ Ok a.sender) × (s ≡ Ok a.receiver)
 both_ok (Ok x) (Ok y) a e = let h : ◌≡◌ {A = Ends} (record { sender = x; receiver = y }) a = cc in (ap (λ z. Ok z.sender) h, ap (λ z. Ok z.receiver) h)
-both_ok (Ok x) (Err y) a e = absurd (let z : ◌≡◌ {A = ℕ} 0 1 = cc in omega arith)
-both_ok (Err x) s a e = absurd (let z : ◌≡◌ {A = ℕ} 0 1 = cc in omega arith)
+both_ok (Ok x) (Err y) a e = absurd (cc)
+both_ok (Err x) s a e = absurd (cc)
 
 both_unlent : (r s : Result ℕ Fault) → both_ends r s ≡ Err NotLent → (r ≡ Err NotLent) ⊎ (((f : ℕ) × (r ≡ Ok f)) × (s ≡ Err NotLent))
-both_unlent (Ok x) (Ok y) e = absurd (let z : ◌≡◌ {A = ℕ} 0 1 = cc in omega arith)
+both_unlent (Ok x) (Ok y) e = absurd (cc)
 both_unlent (Ok x) (Err y) e = inr ((x, refl), cc)
 both_unlent (Err x) s e = inl cc
 
@@ -69,22 +70,14 @@ module _ (ws : List ℕ) (p : Plan) (k : ℕ) where
   unread_behind (inl u) = rw (unread_end ws p (channel p k).sender false u) refl
   unread_behind (inr u) = rw (usable_end ws p (channel p k).sender false u.0.0 u.0.1, unread_end ws p (channel p k).receiver true u.1) refl
 
-split_none : (b : Bool) → ◌≡◌ {A = Option Fault} (cond b (Some Broken) None) None → b ≡ false
-split_none true e = absurd (let z : ◌≡◌ {A = ℕ} 0 1 = cc in omega arith)
-split_none false e = refl
-
-split_unlent : (b : Bool) → ◌≡◌ {A = Option Fault} (cond b (Some Broken) None) (Some NotLent) → ⊥
-split_unlent true e = let z : ◌≡◌ {A = ℕ} 0 1 = cc in omega arith
-split_unlent false e = let z : ◌≡◌ {A = ℕ} 0 1 = cc in omega arith
-
 module _ (ws : List ℕ) (p : Plan) (k : ℕ) where
   taken_none : (r : Result Ends Fault) → taken_fault ws p k r ≡ None → (a : Ends) × (r ≡ Ok a) × (any (meets ws p a) k ≡ false)
-  taken_none (Err x) e = absurd (let z : ◌≡◌ {A = ℕ} 0 1 = cc in omega arith)
-  taken_none (Ok a) e = (a, refl, split_none (any (meets ws p a) k) e)
+  taken_none (Err x) e = absurd (cc)
+  taken_none (Ok a) e = (a, refl, faulty_none (any (meets ws p a) k) e)
 
   taken_unlent : (r : Result Ends Fault) → taken_fault ws p k r ≡ Some NotLent → r ≡ Err NotLent
   taken_unlent (Err x) e = cc
-  taken_unlent (Ok a) e = absurd (split_unlent (any (meets ws p a) k) e)
+  taken_unlent (Ok a) e = absurd (faulty_unlent (any (meets ws p a) k) e)
 
   pub none_fit : ends_fault ws p k ≡ None → PagesFit ws p k
   unfolding ends_fault meets

@@ -89,10 +89,10 @@ module _ (bytes words : List ℕ) where
   lawful_none h (broken BudgetRule) b = lawful_kept bytes h.plan BudgetRule b
   lawful_none h (broken FramesMissing) b = b h.all_lent
   lawful_none h (broken (Surplus at)) b = lawful_kept bytes h.plan (Surplus at) b
-  lawful_none h (pages_unread k) b = let e = joined.unread_unlent words (plan_of bytes) k b.1 in let f = joined.fit_none words (plan_of bytes) k (h.pages k b.0) in let z : ◌≡◌ {A = ℕ} 0 1 = cc in omega arith
+  lawful_none h (pages_unread k) b = let e = joined.unread_unlent words (plan_of bytes) k b.1 in let f = joined.fit_none words (plan_of bytes) k (h.pages k b.0) in cc
   lawful_none h (tables_unread k) b =
       let r = root (plan_of bytes) k in
-      let e = forms.unread_unlent words r b.1 in let f = forms.formed_none words r (h.tables k b.0) in let z : ◌≡◌ {A = ℕ} 0 1 = cc in omega arith
+      let e = forms.unread_unlent words r b.1 in let f = forms.formed_none words r (h.tables k b.0) in cc
 
   module _ (none : (d : Finding) → Found bytes words d → ⊥) where
     fits_at : (k : ℕ) → k < (plan_of bytes).counts.channels → (o : Option Fault) → ends_fault words (plan_of bytes) k ≡ o → PagesFit words (plan_of bytes) k
@@ -101,8 +101,8 @@ module _ (bytes words : List ℕ) where
     fits_at k l (Some NotLent) e = absurd (none (pages_unread k) (l, joined.unlent_unread words (plan_of bytes) k e))
     fits_at k l (Some RuleBroken) e = absurd (none (broken (ChannelPage k)) (
       l,
-      (λ u. absurd (let f = joined.unread_unlent words (plan_of bytes) k u in let z : ◌≡◌ {A = ℕ} 0 1 = cc in omega arith)),
-      λ t. absurd (let f = joined.fit_none words (plan_of bytes) k t in let z : ◌≡◌ {A = ℕ} 0 1 = cc in omega arith),
+      (λ u. absurd (let f = joined.unread_unlent words (plan_of bytes) k u in cc)),
+      λ t. absurd (let f = joined.fit_none words (plan_of bytes) k t in cc),
     ))
 
     formed_at : (k : ℕ) → k < (plan_of bytes).counts.partitions → (o : Option Fault) → root_fault words (root (plan_of bytes) k) ≡ o → Formed words (root (plan_of bytes) k)
@@ -111,8 +111,8 @@ module _ (bytes words : List ℕ) where
     formed_at k l (Some NotLent) e = absurd (none (tables_unread k) (l, forms.unlent_unread words (root (plan_of bytes) k) e))
     formed_at k l (Some RuleBroken) e = absurd (none (broken (TableMalformed k)) (
       l,
-      (λ u. absurd (let f = forms.unread_unlent words (root (plan_of bytes) k) u in let z : ◌≡◌ {A = ℕ} 0 1 = cc in omega arith)),
-      λ t. absurd (let f = forms.formed_none words (root (plan_of bytes) k) t in let z : ◌≡◌ {A = ℕ} 0 1 = cc in omega arith),
+      (λ u. absurd (let f = forms.unread_unlent words (root (plan_of bytes) k) u in cc)),
+      λ t. absurd (let f = forms.formed_none words (root (plan_of bytes) k) t in cc),
     ))
 
     all_formed_here : (k : ℕ) → k < (plan_of bytes).counts.partitions → Formed words (root (plan_of bytes) k)

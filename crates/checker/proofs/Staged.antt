@@ -97,10 +97,10 @@ module _ (bytes words : List ℕ) where
 
   refused_none : (e : Refusal) (o : Option Fault) → refused_by e o ≡ None → o ≡ None
   refused_none e None h = refl
-  refused_none e (Some f) h = absurd (let z : ◌≡◌ {A = ℕ} 0 1 = cc in omega arith)
+  refused_none e (Some f) h = absurd (cc)
 
   refused_some : (e d : Refusal) (o : Option Fault) → refused_by e o ≡ Some d → ((o ≡ Some RuleBroken) × (e ≡ d)) ⊎ ((o ≡ Some NotLent) × (FramesMissing ≡ d))
-  refused_some e d None h = absurd (let z : ◌≡◌ {A = ℕ} 0 1 = cc in omega arith)
+  refused_some e d None h = absurd (cc)
   refused_some e d (Some RuleBroken) h = inl (refl, cc)
   refused_some e d (Some NotLent) h = inr (refl, cc)
 
@@ -119,7 +119,7 @@ module _ (bytes words : List ℕ) where
     at_none k h d r s b = elim (kinds d r) [
       | inl is ↦ (e_found (found_at d) (subst (Found bytes words) is b)).2 (subst Fit (sym s) (none_fit k h))
       | inr is ↦ absurd (let u = unread_unlent k (subst Unread s (u_found (found_at d) (subst (Found bytes words) is b)).1) in
-          let z : ◌≡◌ {A = ℕ} 0 1 = cc in omega arith)
+          cc)
     ]
 
     at_some : (k : ℕ) (e : Refusal) → k < many → refused_by (E k) (fault k) ≡ Some e → (f : Finding) × (refusal_of f ≡ e) × Found bytes words f × (rule_of f ≡ n) × (found_at f ≡ k)
@@ -127,8 +127,8 @@ module _ (bytes words : List ℕ) where
       | inl g ↦ (
         broken (E k),
         g.1,
-        found_e k l (λ u. absurd (let v = unread_unlent k u in let w = g.0 in let z : ◌≡◌ {A = ℕ} 0 1 = cc in omega arith))
-            (λ t. absurd (let v = fit_none k t in let w = g.0 in let z : ◌≡◌ {A = ℕ} 0 1 = cc in omega arith)),
+        found_e k l (λ u. absurd (let v = unread_unlent k u in let w = g.0 in cc))
+            (λ t. absurd (let v = fit_none k t in let w = g.0 in cc)),
         e_rule k,
         e_place k,
       )

@@ -36,6 +36,6 @@ accepted words p = record { plan = p; ends = rows (ends_or_none words p) no_ends
 unfoldable pub checked : List ℕ → List ℕ → Result Accepted Refusal
 checked bytes words = unless (first_refusal bytes words (plan_of bytes)) (accepted words (plan_of bytes))
 
--- the verdict on a file is that on so many of its bytes as the longest plan can have
+-- the verdict on a file is that on so many of its bytes as the longest plan has, and a byte more
 abbrev pub TellsAll : Type 0
 TellsAll = (bytes words : List ℕ) (n : ℕ) → ((i : ℕ) → byte bytes i < 256) → longest ≤ n → checked (take n bytes) words ≡ checked bytes words

@@ -18,7 +18,8 @@ named_at words p frame k = names words (partition p k).root frame
 unfoldable pub kernel_at : List ℕ → Plan → ℕ → ℕ → Bool
 kernel_at words p frame k = kernel_test words (partition p k).root frame
 
--- a partition names the frame or has it as a kernel frame, and so do those before it
+-- a partition names a frame that an earlier one names or has as a kernel frame, or that is its own kernel frame; or an earlier one names
+-- its kernel frame. Two partitions may have a kernel frame in common
 unfoldable pub clash : Bool → Bool → Bool → Bool → Bool
 clash named kernel others tables = (named && (others || (tables || kernel))) || (kernel && others)
 

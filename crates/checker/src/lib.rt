@@ -61,7 +61,7 @@ fn first_refusal(bytes: &[u8], words: &[u32]) -> Result<Accepted, Refusal>
 }
 
 // A verdict is the only one, and stands on what pages map to. In an accepted plan no frame is named by two partitions, and no kernel frame
-// by any, so no page leads there. A file is not read past the longest plan.
+// by any, so no page leads there. A file is not read further than a byte past the longest plan.
 pub fn laws()
     ensures judges { CheckedJudges }
     ensures one_first { OneFirst }

@@ -5,7 +5,7 @@ ghost use Rattle.words.specs.First.{any, first, unless};
 ghost use Rattle.plan.specs.Rules.{broken_unless};
 ghost use Rattle.plan.specs.declared.refusal.Refusal.TheVariants.{FrameShared};
 ghost use Rattle.checker.specs.Faults.{cleared};
-ghost use Rattle.checker.specs.Sharing.{Gathers, Joined, clash_claims, lent_refusal, missing_mark, named_at, share_refusal};
+ghost use Rattle.checker.specs.Sharing.{Gathers, Joined, clash_claims, lent_refusal, missing_mark, named_at};
 ghost use Rattle.checker.specs.Tables.{table_refusal};
 
 use crate::claims::Claims;

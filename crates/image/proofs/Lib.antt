@@ -1,3 +1,4 @@
 -- The lemmas of this crate.
 pub mod Verdict
 pub mod Front
+pub mod Words

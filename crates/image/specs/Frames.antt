@@ -2,6 +2,7 @@
 use Rattle.std.specs.Prelude.{◌≡◌, ℕ, ◌+◌, ◌-◌, ◌*◌, ◌/◌, ◌<◌, ◌≤◌, min, cond, ◌⊎◌, List, map, length, take, Some, None, Option, nat_lt}
 use Rattle.std.specs.List.{range_with_len}
 use Rattle.words.specs.Bytes.{number}
+use Rattle.words.specs.Frames.{word}
 use Rattle.plan.specs.declared.refusal.Refusal.{Refusal}
 use Rattle.plan.specs.declared.refusal.Refusal.TheVariants.{FramesMissing, Surplus}
 
@@ -23,6 +24,14 @@ image_word image k = number image (2 + 4 * k) 4
 unfoldable pub image_words : List ℕ → List ℕ
 image_words image = map (image_word image) (range_with_len 0 (lent_frames image * 1024))
 
+-- as many words are lent as the lent frames have, and word k of frame f is the number that the four bytes at its place write
+pub record FrameWords (image : List ℕ) : Type 0 where
+  pub long : length (image_words image) ≡ 1024 * lent_frames image
+  pub words : (f k : ℕ) → f < lent_frames image → k < 1024 → word (image_words image) f k ≡ number image (2 + 4096 * f + 4 * k) 4
+
+abbrev pub WordsAreBytes : Type 0
+WordsAreBytes = (image : List ℕ) → FrameWords image
+
 -- too short for its count, or bytes after its last frame
 abbrev pub image_fault : List ℕ → Option Refusal
 image_fault image =
@@ -43,7 +52,7 @@ ImageBroken image e =
 abbrev pub front_size : List ℕ → ℕ
 front_size image = image_size (counted image) + 1
 
--- no count asks for a longer one
+-- no count asks for a longer one: the image of 65,535 frames, and a byte more
 abbrev pub longest : ℕ
 longest = 268431363
 

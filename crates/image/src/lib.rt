@@ -3,7 +3,8 @@
 
 ghost use Rattle.std.specs.Prelude.{◌≡◌, ◌≤◌, IfOk, MatchResult};
 ghost use Rattle.words.specs.First.{unless};
-ghost use Rattle.image.specs.Frames.{CountTells, ImageBroken, TellsAll, Whole, counted, front_size, image_fault, image_size, image_words, lent_frames, longest};
+ghost use Rattle.image.specs.Example.{Example};
+ghost use Rattle.image.specs.Frames.{CountTells, ImageBroken, TellsAll, Whole, WordsAreBytes, counted, front_size, image_fault, image_size, image_words, lent_frames, longest};
 
 use plan::refusal::Refusal;
 use std::alloc::{AllocError, Global};
@@ -63,8 +64,11 @@ pub fn check(image: &[u8]) -> Result<(), Refusal>
     Ok(())
 }
 
-// A file is not read past the first byte after its last frame: nothing there changes a verdict or a lent word.
+// The lent words are the bytes, frame by frame. A file is not read past the first byte after its last frame: nothing there changes a
+// verdict or a lent word.
 pub fn laws()
+    ensures words_are_bytes { WordsAreBytes }
+    ensures example { Example }
     ensures tells_all { TellsAll }
     ensures count_tells { CountTells }
 {}

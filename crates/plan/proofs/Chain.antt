@@ -11,10 +11,10 @@ use Rattle.plan.specs.Rules.{broken_unless}
 
 pub passed : (kept : Bool) (e : Refusal) → broken_unless kept e ≡ None → kept ≡ true
 passed true e h = refl
-passed false e h = absurd (let z : ◌≡◌ {A = ℕ} 0 1 = cc in omega arith)
+passed false e h = absurd (cc)
 
 pub failed : (kept : Bool) (e d : Refusal) → broken_unless kept e ≡ Some d → (kept ≡ false) × (d ≡ e)
-failed true e d h = absurd (let z : ◌≡◌ {A = ℕ} 0 1 = cc in omega arith)
+failed true e d h = absurd (cc)
 failed false e d h = (refl, cc)
 
 module _ {F : Type 0} (rule place : F → ℕ) (says : F → Refusal) (Found : F → Type 0) where

@@ -1,13 +1,14 @@
 -- The parser's answer is the verdict that the rules ask for.
-use Rattle.std.proofs.Common.{◌≡◌, ℕ, ◌<◌, ◌≤◌, List, Some, None, Option, Result, refl, subst, arith}
+use Rattle.std.proofs.Common.{◌≡◌, ℕ, ◌<◌, ◌≤◌, List, Some, None, Ok, Option, Result, refl, subst, arith}
 use Rattle.std.specs.Option.{option_or}
+use Rattle.std.proofs.lemmas.Result.{MatchResult-at_ok}
 use Rattle.plan.specs.declared.refusal.Refusal.{Refusal}
 use Rattle.plan.specs.declared.refusal.Refusal.TheVariants.{Truncated, CountRange, SlotRule, ChannelRule, ChannelPage, RootRule, TableMalformed, FrameShared, StartMisaligned, BudgetRule, FramesMissing, Surplus}
 use Rattle.plan.specs.declared.model.Plan.{Plan}
 use Rattle.plan.specs.Format.{plan_of}
 use Rattle.plan.specs.Refused.{number_of, place_of}
 use Rattle.plan.specs.Rules.{fault, parsed}
-use Rattle.plan.specs.Lawful.{Before, Broken, Judges}
+use Rattle.plan.specs.Lawful.{Before, Broken, FirstBroken, Judges, Lawful}
 use Rattle.plan.proofs.Chain.{After, chain, last}
 use Rattle.plan.proofs.Kept.{kept_lawful, lawful_kept}
 use Rattle.plan.proofs.Stages.{PlanStage, itself, truncated_stage, counts_stage, slots_stage, channels_stage, starts_stage, budget_stage, surplus_stage}
@@ -92,6 +93,10 @@ module _ (bytes : List ℕ) where
 
   pub judged : Judges bytes (parsed bytes)
   judged = judged_at (fault bytes (plan_of bytes)) refl
+
+  -- what is accepted keeps the rules
+  pub parsed_lawful : (p : Plan) → parsed bytes ≡ Ok p → Lawful bytes × (p ≡ plan_of bytes)
+  parsed_lawful p e = MatchResult-at_ok (λ p. Lawful bytes × (p ≡ plan_of bytes)) (λ d. FirstBroken bytes d) p e judged.cases
 
   -- what answers as the definition does has the verdict
   pub judged_as : (r : Result Plan Refusal) → r ≡ parsed bytes → Judges bytes r

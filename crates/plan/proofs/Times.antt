@@ -2,15 +2,14 @@
 use Rattle.std.proofs.Common.{◌≡◌, ℕ, zero, suc, ◌+◌, ◌*◌, ◌%◌, ◌^◌, ◌<◌, ◌≤◌, ltb, List, Some, Ok, refl, ap, ◌∙◌, add-zero, add-suc, add-one, arith}
 use native.Mathlib.Nat.{add-mod_left}
 use Rattle.std.proofs.lemmas.Nat.{mod_below}
-use Rattle.std.proofs.lemmas.Result.{MatchResult-at_ok}
 use Rattle.std.proofs.lemmas.Bool.{and_from, lt-ltb}
 use Rattle.plan.specs.declared.model.Plan.{Plan}
 use Rattle.plan.specs.declared.refusal.Count.TheVariants.{Slots}
 use Rattle.plan.specs.Format.{plan_of}
 use Rattle.plan.specs.Rules.{parsed, slot}
-use Rattle.plan.specs.Lawful.{Lawful, FirstBroken}
+use Rattle.plan.specs.Lawful.{Lawful}
 use Rattle.plan.specs.Timetable.{slot_of, begins, then_next, turn_after, OnTime, Rounds, Bounded, LawfulBounded}
-use Rattle.plan.proofs.Judged.{judged}
+use Rattle.plan.proofs.Judged.{parsed_lawful}
 
 -- what a plan that keeps the rules says of time
 record Timely (p : Plan) : Type 0 where
@@ -27,7 +26,7 @@ timely_lawful bytes h = record {
 
 timely : (bytes : List ℕ) (p : Plan) → parsed bytes ≡ Ok p → Timely p
 timely bytes p e =
-    let z = MatchResult-at_ok (λ p. Lawful bytes × (p ≡ plan_of bytes)) (λ d. FirstBroken bytes d) p e (judged bytes).cases in
+    let z = parsed_lawful bytes p e in
     rw z.1 (timely_lawful bytes z.0)
 
 module _ (p : Plan) (t : Timely p) where

@@ -24,6 +24,17 @@ with_budget high low = slice_set (slice_set example 3 low) 4 high
 abbrev pub to_itself : List ℕ
 to_itself = slice_set example 2 1 ++ replicate 10 0
 
+-- a channel from one partition to another, between their pages 0
+abbrev pub joined : ℕ → ℕ → List ℕ
+joined sender receiver = sender ∷ receiver ∷ replicate 8 0
+
+-- and with a budget and a channel each way, or two out of partition 0
+abbrev pub each_way : ℕ → ℕ → List ℕ
+each_way high low = slice_set (with_budget high low) 2 2 ++ (joined 0 1 ++ joined 1 0)
+
+abbrev pub both_out : ℕ → ℕ → List ℕ
+both_out high low = slice_set (with_budget high low) 2 2 ++ (joined 0 1 ++ joined 0 1)
+
 pub record Example : Type 0 where
   pub accepted : parsed example ≡ Ok (plan_of example)
   pub first : begins (plan_of example) 0 ≡ 0
@@ -34,6 +45,13 @@ pub record Example : Type 0 where
   -- a budget of 730 is enough, and one of 729 is not
   pub enough : parsed (with_budget 2 0xDA) ≡ Ok (plan_of (with_budget 2 0xDA))
   pub not_enough : parsed (with_budget 2 0xD9) ≡ Err BudgetRule
+  -- with a channel each way 1,754 are needed, and with two out of one partition 2,778
+  pub needs_each_way : ample (plan_of (each_way 6 0xDA)) ≡ 1754
+  pub enough_each_way : parsed (each_way 6 0xDA) ≡ Ok (plan_of (each_way 6 0xDA))
+  pub not_enough_each_way : parsed (each_way 6 0xD9) ≡ Err BudgetRule
+  pub needs_both_out : ample (plan_of (both_out 10 0xDA)) ≡ 2778
+  pub enough_both_out : parsed (both_out 10 0xDA) ≡ Ok (plan_of (both_out 10 0xDA))
+  pub not_enough_both_out : parsed (both_out 10 0xD9) ≡ Err BudgetRule
   -- no bytes, no partitions, a slot of 127 cycles, a start address that is odd, and a byte after the end
   pub too_short : parsed [] ≡ Err (Truncated 0)
   pub no_partitions : parsed (replicate 7 0) ≡ Err (CountRange Partitions)

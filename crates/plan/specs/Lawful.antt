@@ -1,6 +1,7 @@
 -- The rules of a plan that need no memory, each a sentence of its own. No order stands in them; the one thing that is
 -- counted is how many channels lead out of a partition.
-use Rattle.std.specs.Prelude.{◌≡◌, ℕ, ◌%◌, ◌<◌, ◌≤◌, ◌≢◌, ◌⊎◌, List, length, Result, MatchResult}
+use Rattle.std.specs.Prelude.{◌≡◌, ℕ, ◌+◌, ◌*◌, ◌%◌, ◌<◌, ◌≤◌, ◌≢◌, ◌⊎◌, List, length, Result, MatchResult}
+use Rattle.words.specs.Costs.{message, switch}
 use Rattle.plan.specs.declared.model.Plan.{Plan}
 use Rattle.plan.specs.declared.refusal.Count.{Count}
 use Rattle.plan.specs.declared.refusal.Count.TheVariants.{Partitions, Slots, Channels}
@@ -8,7 +9,7 @@ use Rattle.plan.specs.declared.refusal.Refusal.{Refusal}
 use Rattle.plan.specs.declared.refusal.Refusal.TheVariants.{Truncated, CountRange, SlotRule, ChannelRule, ChannelPage, RootRule, TableMalformed, FrameShared, StartMisaligned, BudgetRule, FramesMissing, Surplus}
 use Rattle.plan.specs.Format.{plan_of, plan_size}
 use Rattle.plan.specs.Refused.{number_of, place_of}
-use Rattle.plan.specs.Rules.{partition, slot, channel, ample}
+use Rattle.plan.specs.Rules.{partition, slot, channel, channels_out}
 
 -- 1 to 8 partitions, 1 to 64 slots, at most 16 channels
 abbrev pub CountFits : Plan → Count → Type 0
@@ -30,9 +31,11 @@ ChannelFits p k =
 abbrev pub StartFits : Plan → ℕ → Type 0
 StartFits p k = (partition p k).start % 4 ≡ 0
 
--- the budget is 64 to 100,000 cycles and covers every switch
+-- the budget is 64 to 100,000 cycles, and covers a switch without messages and that after a slot of any partition, with all messages of that partition
 abbrev pub BudgetFits : Plan → Type 0
-BudgetFits p = (64 ≤ p.budget) × (p.budget ≤ 100000) × (ample p ≤ p.budget)
+BudgetFits p =
+    (64 ≤ p.budget) × (p.budget ≤ 100000) × (switch ≤ p.budget)
+    × ((who : ℕ) → who < p.counts.partitions → switch + message * channels_out p who ≤ p.budget)
 
 -- bytes that keep every rule
 pub record Lawful (bytes : List ℕ) : Type 0 where
@@ -44,7 +47,7 @@ pub record Lawful (bytes : List ℕ) : Type 0 where
   pub budget : BudgetFits (plan_of bytes)
   pub no_surplus : length bytes ≤ plan_size (plan_of bytes).counts
 
--- the rule of a refusal is broken at its place
+-- the rule of a refusal is broken at its place; the rules on frames are the checker's, and count as unbroken here
 unfoldable pub Broken : List ℕ → Refusal → Type 0
 Broken bytes (Truncated at) = (length bytes < plan_size (plan_of bytes).counts) × (at ≡ length bytes)
 Broken bytes (CountRange c) = CountFits (plan_of bytes) c → ⊥

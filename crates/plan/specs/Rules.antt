@@ -94,7 +94,7 @@ fault bytes p =
 unfoldable pub parsed : List ℕ → Result Plan Refusal
 parsed bytes = unless (fault bytes (plan_of bytes)) (plan_of bytes)
 
--- the longest plan that the counts can ask for ends within so many bytes
+-- the bytes of the longest plan that three counts of a byte can ask for, and one more
 abbrev pub longest : ℕ
 longest = 5363
 

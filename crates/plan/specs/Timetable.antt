@@ -27,9 +27,13 @@ abbrev pub then_next : Plan → Option Turn → Option Turn
 then_next p None = None
 then_next p (Some t) = next_turn p t
 
+-- no turn ran before the first, and it begins as the clock does, at 0
+abbrev pub first_turn : Turn
+first_turn = record { number = 0; begin = 0 }
+
 -- the turn that n steps from the first lead to
 unfoldable pub turn_after : Plan → ℕ → Option Turn
-turn_after p zero = Some (record { number = 0; begin = 0 })
+turn_after p zero = Some first_turn
 turn_after p (suc n) = then_next p (turn_after p n)
 
 -- every turn of an accepted plan comes, up to the last that has a number, and begins on time

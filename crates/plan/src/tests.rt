@@ -156,7 +156,7 @@ fn turns_end_before_they_wrap(rt: HostRuntime) -> Result<(), Fail> {
     let Ok(plan) = parse(&PLAN) else {
         return Err(Fail::new("refused"));
     };
-    let second = Turn::FIRST.next(&plan).ok_or("no second turn")?;
+    let second = Turn::first().next(&plan).ok_or("no second turn")?;
     assert_eq!(rt; (second.number, second.begin), (1, 128 + 1754));
     assert_eq!(rt; second.slot(&plan).partition, 1);
     let latest = u64::MAX - (128 + 1754);

@@ -1,6 +1,6 @@
 // The slots of a run in their turn, and the clock at which each begins.
 ghost use Rattle.std.specs.Prelude.{◌≡◌};
-ghost use Rattle.plan.specs.Timetable.{next_turn, slot_of};
+ghost use Rattle.plan.specs.Timetable.{first_turn, next_turn, slot_of};
 
 use crate::model::{Plan, Slot};
 
@@ -12,10 +12,15 @@ pub struct Turn {
 }
 
 impl Turn {
-    pub const FIRST: Turn = Turn {
-        number: 0,
-        begin: 0,
-    };
+    // The turn with which a run begins.
+    pub fn first() -> Turn
+        ensures { result ≡ first_turn }
+    {
+        Turn {
+            number: 0,
+            begin: 0,
+        }
+    }
 
     // The plan's slot that runs in this turn.
     pub fn slot(self, plan: &Plan) -> Slot

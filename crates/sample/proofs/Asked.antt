@@ -3,7 +3,7 @@ use Rattle.std.proofs.Common.{◌≡◌, ℕ, ◌<◌, Bool, true, false, List, 
 use Rattle.std.proofs.lemmas.Bool.{cases_Bool}
 use Rattle.std.specs.Option.{option_or}
 use Rattle.words.specs.First.{first, unless}
-use Rattle.words.proofs.First.{below_none}
+use Rattle.words.proofs.First.{any_here, below_none}
 use Rattle.plan.specs.declared.model.Endpoint.{Endpoint}
 use Rattle.plan.specs.declared.model.Plan.{Plan}
 use Rattle.plan.specs.declared.refusal.Refusal.{Refusal}
@@ -12,15 +12,16 @@ use Rattle.plan.specs.Format.{plan_of}
 use Rattle.plan.specs.Rules.{budget_fault, channel, channel_fault, count_fault, slot_fault, start_fault, surplus, truncated}
 use Rattle.checker.specs.declared.fault.Fault.TheVariants.{Broken}
 use Rattle.checker.specs.Checked.{accepted, checked, first_refusal}
-use Rattle.checker.specs.Lawful.{AllLent, Apart, Formed, Leads, PagesFit, RootFits, Usable, root}
-use Rattle.checker.specs.Pages.{behind, end_frame, ends_fault, ends_refusal}
+use Rattle.checker.specs.Lawful.{AllLent, Apart, Formed, Joins, Leads, PagesFit, RootFits, Usable, root}
+use Rattle.checker.specs.declared.pages.Ends.{Ends}
+use Rattle.checker.specs.Pages.{behind, end_frame, ends_fault, ends_refusal, meets, touch, touches}
 use Rattle.checker.specs.Roots.{root_kept, root_refusal}
 use Rattle.checker.specs.Sharing.{apart_kept, lent_kept, lent_refusal, share_refusal}
 use Rattle.checker.specs.Tables.{table_refusal}
 use Rattle.checker.proofs.Conflicts.{apart_decides, lent_decides}
 use Rattle.checker.proofs.Ended.{leads_looked, usable_end}
 use Rattle.checker.proofs.Forms.{formed_none}
-use Rattle.checker.proofs.Joined.{fit_none}
+use Rattle.checker.proofs.Joined.{fit_none, joins_behind}
 use Rattle.checker.proofs.Staged.{root_decides}
 
 refuted : {P : Type 0} (t : Bool) → Decides t P → (P → ⊥) → t ≡ false
@@ -38,7 +39,7 @@ decided None (Some d) c f g e x h = cc
 decided None None (Some d) f g e x h = cc
 decided None None None (Some d) g e x h = cc
 decided None None None None (Some d) e x h = cc
-decided None None None None None e x h = absurd (let z : ◌≡◌ {A = ℕ} 0 1 = cc in omega arith)
+decided None None None None None e x h = absurd (cc)
 
 module _ (bytes ws : List ℕ) where
   unfoldable pub faults : Option Refusal
@@ -89,6 +90,13 @@ module _ (ws : List ℕ) (p : Plan) where
   pub written_end : (end : Endpoint) (f : ℕ) (x : Bool) → Leads ws (root p end.partition) end.page (record { frame = f; readable = true; writable = true; executable = x }) → end_frame ws p end true ≡ Err Broken
   unfolding end_frame
   written_end end f x h = rw (leads_looked ws (root p end.partition) end.page _ h) refl
+
+  -- a channel with a frame behind a page of an earlier one
+  pub taken_some : (k j : ℕ) → j < k → (a b : Ends) → Joins ws p k a → Joins ws p j b → touch a b ≡ true → ends_refusal ws p k ≡ Some (ChannelPage k)
+  unfolding ends_fault meets
+  taken_some k j l a b ours theirs both =
+      let met : touches a (behind ws p j) ≡ true = rw (joins_behind ws p j b theirs) both in
+      rw (joins_behind ws p k a ours) (rw (any_here (meets ws p a) k j l met) refl)
 
   pub receiver_some : (k f : ℕ) → Usable ws p (channel p k).sender false f → end_frame ws p (channel p k).receiver true ≡ Err Broken → ends_refusal ws p k ≡ Some (ChannelPage k)
   unfolding ends_fault behind

@@ -1,24 +1,28 @@
 -- The words of the sample's memory, and what follows for its page tables.
-use Rattle.std.proofs.Common.{◌≡◌, ℕ, zero, suc, ◌+◌, ◌*◌, ◌/◌, ◌%◌, ◌<◌, ◌≤◌, true, false, ◌≢◌, ◌⊎◌, length, sym, refl, ap, ◌∙◌, arith}
+use Rattle.std.proofs.Common.{◌≡◌, ℕ, zero, suc, ◌+◌, ◌*◌, ◌/◌, ◌%◌, ◌<◌, ◌≤◌, true, false, ◌≢◌, ◌⊎◌, length, Ok, sym, refl, ap, ◌∙◌, subst, arith}
 use Rattle.std.proofs.lemmas.List.FromFn.{get_or-map-range_with_len, length-map-range_with_len}
 use Rattle.std.proofs.lemmas.Bool.{eq-eqb, ne_eqb, true≢false}
 use Rattle.words.specs.First.{count, first, most}
 use Rattle.words.specs.Frames.{word}
 use Rattle.paging.specs.Entries.{flag}
-use Rattle.paging.specs.Mapping.{InMemory}
+use Rattle.paging.specs.Mapping.{InMemory, Pointer}
 use Rattle.paging.specs.Tables.{KernelFrame, Names}
 use Rattle.plan.specs.Format.{plan_of, rows}
 use Rattle.plan.specs.Lawful.{Lawful}
-use Rattle.plan.proofs.Kept.{tested}
+use Rattle.plan.specs.Rules.{fault, parsed}
+use Rattle.plan.proofs.Judged.{parsed_lawful}
 use Rattle.checker.specs.Lawful.{Formed, Joins, Leads, Lent, PagesFit, RootFits, root}
 use Rattle.sample.specs.Memory.{Layout, memory, root_entry, table_entry, two, word_in, reads, runs, writes}
 use Rattle.sample.specs.Verdicts.{Free}
-use Rattle.sample.proofs.Entries.{reads_leaf, runs_leaf, writes_leaf}
+use Rattle.sample.proofs.Entries.{pointer, reads_leaf, runs_leaf, writes_leaf}
 use Rattle.sample.proofs.Tables.{its_form, its_frames, its_kernel, leads_16, leads_17, names_a}
 
+accepted : parsed two ≡ Ok (plan_of two)
+unfolding first count most plan_of rows parsed fault
+accepted = refl
+
 pub plan_lawful : Lawful two
-unfolding first count most plan_of rows
-plan_lawful = tested two refl refl refl refl refl refl refl
+plan_lawful = (parsed_lawful two (plan_of two) accepted).0
 
 own_root : (j : ℕ) → j < 1 → root (plan_of two) j ≢ 3
 unfolding plan_of rows
@@ -61,6 +65,9 @@ module _ (l : Layout) (content : ℕ → ℕ → ℕ) where
 
     pub second_root : (k : ℕ) → k < 1024 → word (memory l content) 3 k ≡ root_entry l.table k
     second_root k g = word_at 3 k (omega (arith, enough)) g
+
+    pub second_points : Pointer (word (memory l content) 3 0) l.table
+    second_points = subst (λ e. Pointer e l.table) (sym (second_root 0 (omega arith))) (pointer l.table)
 
     pub named_0 : (f : ℕ) → Names (memory l content) 0 f → (f ≡ 2) ⊎ (f ≡ 6)
     unfolding flag
@@ -107,6 +114,11 @@ module _ (l : Layout) (content : ℕ → ℕ → ℕ) where
     pub held_1 : (f : ℕ) → KernelFrame (memory l content) 3 f → (f ≡ 3) ⊎ (f ≡ l.table)
     unfolding flag
     held_1 = its_kernel (memory l content) 3 l.table l.code l.mailbox 0xDB 0xD3 (second_root h.enough) second_table (omega arith) (omega arith) refl refl
+
+    pub leads_second_16 : l.code < 256 → Leads (memory l content) 3 16 (record { frame = l.code; readable = true; writable = false; executable = true })
+    unfolding flag
+    leads_second_16 below = leads_16 (memory l content) 3 l.table l.code l.mailbox 0xDB 0xD3 (second_root h.enough) second_table (omega arith) (omega arith) refl refl
+        (there 3 (omega arith) (omega (arith, h.enough))) (there l.table h.below h.table.2) _ (runs_leaf l.code) below
 
     pub leads_second_17 : Leads (memory l content) 3 17 (record { frame = l.mailbox; readable = true; writable = false; executable = false })
     unfolding flag

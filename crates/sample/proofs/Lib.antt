@@ -5,4 +5,5 @@ pub mod Laid
 pub mod Verdicts
 pub mod Asked
 pub mod Refused
+pub mod Unjoined
 pub mod Pair

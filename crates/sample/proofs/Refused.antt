@@ -1,11 +1,11 @@
 -- The sample with one rule broken, and what the checker answers.
-use Rattle.std.proofs.Common.{◌≡◌, ℕ, zero, suc, ◌<◌, true, false, List, Some, None, Err, sym, refl, ap, subst, inl, inr, arith}
+use Rattle.std.proofs.Common.{◌≡◌, ℕ, zero, suc, ◌<◌, ◌≤◌, true, false, List, Some, None, Err, sym, refl, ap, subst, inl, inr, arith}
 use Rattle.std.proofs.lemmas.Bool.{true≢false}
 use Rattle.words.specs.First.{count, first, most}
-use Rattle.words.specs.Frames.{word}
 use Rattle.words.proofs.First.{any_here, below_none, first_more, first_none, first_stays}
 use Rattle.paging.specs.Entries.{flag}
-use Rattle.paging.specs.Mapping.{Pointer}
+use Rattle.paging.specs.Tables.{KernelFrame, Names}
+use Rattle.plan.specs.declared.model.Plan.{Plan}
 use Rattle.plan.specs.declared.refusal.Refusal.{Refusal}
 use Rattle.plan.specs.declared.refusal.Refusal.TheVariants.{ChannelPage, FrameShared, FramesMissing, RootRule, TableMalformed}
 use Rattle.plan.specs.Format.{plan_of, rows}
@@ -13,7 +13,7 @@ use Rattle.plan.specs.Rules.{channel}
 use Rattle.checker.specs.declared.fault.Fault.TheVariants.{Broken}
 use Rattle.checker.specs.Checked.{checked}
 use Rattle.checker.specs.Faults.{refused_by}
-use Rattle.checker.specs.Lawful.{AllLent, Apart, PagesFit, PagesUnread, PageUnread, Usable}
+use Rattle.checker.specs.Lawful.{AllLent, Apart, Conflict, PagesFit, PagesUnread, PageUnread, Usable, root}
 use Rattle.checker.specs.Pages.{ends_refusal}
 use Rattle.checker.specs.Roots.{root_refusal}
 use Rattle.checker.specs.Sharing.{share_refusal}
@@ -22,13 +22,12 @@ use Rattle.checker.proofs.Forms.{lent_tells}
 use Rattle.checker.proofs.Joined.{unread_unlent}
 use Rattle.checker.proofs.Leading.{named_leaf}
 use Rattle.sample.specs.Memory.{Layout, memory, two}
-use Rattle.sample.specs.Verdicts.{Refuses, crowded, here, one_root, past, shared, short, tableless, turned}
+use Rattle.sample.specs.Verdicts.{crowded, here, one_root, own, past, shared, short, tableless, turned}
 use Rattle.sample.proofs.Asked.{apart_none, conflict_some, faults, missing_some, on_frames, pages_none, receiver_some, refused, root_none, root_some, roots_none, table_none, tables_none, written_end}
-use Rattle.sample.proofs.Entries.{pointer}
-use Rattle.sample.proofs.Laid.{Tabled, formed, formed_0, held_0, leads_first_16, leads_first_17, leads_second_17, lent_at, long, named_0, names_2, names_code, pages, roots, there, word_at}
+use Rattle.sample.proofs.Laid.{Tabled, formed, formed_0, held_0, leads_first_16, leads_first_17, leads_second_17, lent_at, long, named_0, names_2, names_code, pages, roots, second_points, there, word_at}
 use Rattle.sample.proofs.Verdicts.{Spread, differ, none_shared}
 
-here_tabled : Tabled here
+pub here_tabled : Tabled here
 here_tabled = record { enough = omega arith; table = (omega arith, (λ e. omega arith), omega arith); below = omega arith; mailbox = omega arith }
 
 crowded_tabled : Tabled crowded
@@ -39,6 +38,9 @@ past_tabled = record { enough = omega arith; table = (omega arith, (λ e. omega 
 
 shared_tabled : Tabled shared
 shared_tabled = record { enough = omega arith; table = (omega arith, (λ e. omega arith), omega arith); below = omega arith; mailbox = omega arith }
+
+own_tabled : Tabled own
+own_tabled = record { enough = omega arith; table = (omega arith, (λ e. omega arith), omega arith); below = omega arith; mailbox = omega arith }
 
 short_spread : Spread short
 short_spread = record {
@@ -74,7 +76,7 @@ module _ (content : ℕ → ℕ → ℕ) where
       first_stays (ends_refusal ws p) 0 p.counts.channels (ChannelPage 0) (omega arith) (first_none (ends_refusal ws p))
       (receiver_some ws p 0 7 sender (written_end ws p (channel p 0).receiver 6 false (leads_first_17 here content (omega arith))))
 
-  receiver_writes : checked turned (memory here content) ≡ Err (ChannelPage 0)
+  pub receiver_writes : checked turned (memory here content) ≡ Err (ChannelPage 0)
   unfolding faults on_frames
   receiver_writes = refused_turned (memory here content) (ChannelPage 0) (rw turned_some refl)
 
@@ -100,7 +102,7 @@ module _ (content : ℕ → ℕ → ℕ) where
       (first_more (root_refusal ws p) 0 (first_none (root_refusal ws p)) (root_none one_root ws 0 (record { few = omega (arith, size); below = omega arith; own = λ j b e. omega arith })))
       (root_some one_root ws 1 (λ f. f.own 0 (omega arith) refl))
 
-  root_twice : checked one_root (memory here content) ≡ Err (RootRule 1)
+  pub root_twice : checked one_root (memory here content) ≡ Err (RootRule 1)
   unfolding faults on_frames
   root_twice = refused_one_root (memory here content) (RootRule 1) (rw (pages_none one_root (memory here content) one_root_pages, one_root_some) refl)
 
@@ -112,7 +114,7 @@ module _ (content : ℕ → ℕ → ℕ) where
       let size = long crowded content in
       first_stays (root_refusal ws p) 0 p.counts.partitions (RootRule 0) (omega arith) (first_none (root_refusal ws p)) (root_some two ws 0 (λ f. omega (arith, size, f.few)))
 
-  too_many : checked two (memory crowded content) ≡ Err (RootRule 0)
+  pub too_many : checked two (memory crowded content) ≡ Err (RootRule 0)
   unfolding faults on_frames
   too_many = refused_two (memory crowded content) (RootRule 0) (rw (pages_none two (memory crowded content) (pages crowded content crowded_tabled), crowded_some) refl)
 
@@ -146,7 +148,7 @@ module _ (content : ℕ → ℕ → ℕ) where
       (first_more (table_refusal ws p) 0 (first_none (table_refusal ws p)) (table_none two ws 0 (formed_0 past content (omega arith))))
       (ap (refused_by (TableMalformed 1)) past_root)
 
-  no_frame : checked two (memory past content) ≡ Err (TableMalformed 1)
+  pub no_frame : checked two (memory past content) ≡ Err (TableMalformed 1)
   unfolding faults on_frames
   no_frame = refused_two (memory past content) (TableMalformed 1) (rw (
     pages_none two (memory past content) (pages past content past_tabled),
@@ -154,38 +156,46 @@ module _ (content : ℕ → ℕ → ℕ) where
     past_some,
   ) refl)
 
-  -- the first partition is in conflict with none before it, itself included
-  apart_0 : (l : Layout) → Tabled l → Apart (memory l content) (plan_of two) 0
+  -- the first partition is in conflict with none before it, itself included, whatever the plan says of the second
+  no_conflict_0 : (l : Layout) → 6 < l.frames → (p : Plan) → root p 0 ≡ 0 → Conflict (memory l content) p 0 0 → ⊥
+  no_conflict_0 l enough p e (f, n, inl m) = m.0 refl
+  no_conflict_0 l enough p e (f, n, inr k) =
+      differ 2 6 0 1 f (named_0 l content enough f (subst (λ r. Names (memory l content) r f) e n)) (held_0 l content enough f (subst (λ r. KernelFrame (memory l content) r f) e k))
+      (λ e. omega arith) (λ e. omega arith) (λ e. omega arith) (λ e. omega arith)
+
+  pub apart_0 : (l : Layout) → 6 < l.frames → (p : Plan) → root p 0 ≡ 0 → Apart (memory l content) p 0
+  apart_0 l enough p e zero g (inl c) = no_conflict_0 l enough p e c
+  apart_0 l enough p e zero g (inr c) = no_conflict_0 l enough p e c
+  apart_0 l enough p e (suc j) g c = omega arith
+
+  root_0 : root (plan_of two) 0 ≡ 0
   unfolding plan_of rows
-  apart_0 l h zero g (inl (f, n, inl m)) = m.0 refl
-  apart_0 l h zero g (inl (f, n, inr k)) = differ 2 6 0 1 f (named_0 l content h.enough f n) (held_0 l content h.enough f k) (λ e. omega arith) (λ e. omega arith) (λ e. omega arith) (λ e. omega arith)
-  apart_0 l h zero g (inr (f, n, inl m)) = m.0 refl
-  apart_0 l h zero g (inr (f, n, inr k)) = differ 2 6 0 1 f (named_0 l content h.enough f n) (held_0 l content h.enough f k) (λ e. omega arith) (λ e. omega arith) (λ e. omega arith) (λ e. omega arith)
-  apart_0 l h (suc j) g c = omega arith
+  root_0 = refl
+
+  -- a second partition that is not apart is refused
+  second_shares : (l : Layout) → Tabled l → l.code < 256 → l.frames ≤ 256 → (Apart (memory l content) (plan_of two) 1 → ⊥) → checked two (memory l content) ≡ Err (FrameShared 1)
+  unfolding plan_of faults on_frames
+  second_shares l h code few not_apart =
+      let ws = memory l content in
+      let p = plan_of two in
+      let ok = formed l content h code in
+      let shares : first (share_refusal ws p) p.counts.partitions ≡ Some (FrameShared 1) =
+      first_stays (share_refusal ws p) 1 p.counts.partitions (FrameShared 1) (omega arith)
+      (first_more (share_refusal ws p) 0 (first_none (share_refusal ws p)) (apart_none two ws ok 0 (omega arith) (apart_0 l h.enough p root_0)))
+      (conflict_some two ws ok 1 (omega arith) not_apart) in
+      refused_two ws (FrameShared 1) (rw (pages_none two ws (pages l content h), roots_none two ws (roots l content h few), tables_none two ws ok, shares) refl)
 
   -- the second names the first one's frame 2
-  not_apart_1 : Apart (memory shared content) (plan_of two) 1 → ⊥
+  pub both_name : checked two (memory shared content) ≡ Err (FrameShared 1)
   unfolding plan_of rows
-  not_apart_1 apart = apart 0 (omega arith) (inl (2, names_code shared content shared_tabled, inl ((λ e. omega arith), names_2 shared content (omega arith))))
+  both_name = second_shares shared shared_tabled (omega arith) (omega arith) (λ apart.
+      apart 0 (omega arith) (inl (2, names_code shared content shared_tabled, inl ((λ e. omega arith), names_2 shared content (omega arith)))))
 
-  shared_some : first (share_refusal (memory shared content) (plan_of two)) (plan_of two).counts.partitions ≡ Some (FrameShared 1)
-  unfolding plan_of
-  shared_some =
-      let ws = memory shared content in
-      let p = plan_of two in
-      let ok = formed shared content shared_tabled (omega arith) in
-      first_stays (share_refusal ws p) 1 p.counts.partitions (FrameShared 1) (omega arith)
-      (first_more (share_refusal ws p) 0 (first_none (share_refusal ws p)) (apart_none two ws ok 0 (omega arith) (apart_0 shared shared_tabled)))
-      (conflict_some two ws ok 1 (omega arith) not_apart_1)
-
-  both_name : checked two (memory shared content) ≡ Err (FrameShared 1)
-  unfolding faults on_frames
-  both_name = refused_two (memory shared content) (FrameShared 1) (rw (
-    pages_none two (memory shared content) (pages shared content shared_tabled),
-    roots_none two (memory shared content) (roots shared content shared_tabled (omega arith)),
-    tables_none two (memory shared content) (formed shared content shared_tabled (omega arith)),
-    shared_some,
-  ) refl)
+  -- the second names frame 4, its table
+  pub names_own : checked two (memory own content) ≡ Err (FrameShared 1)
+  unfolding plan_of rows
+  names_own = second_shares own own_tabled (omega arith) (omega arith) (λ apart.
+      apart 1 (omega arith) (inl (4, names_code own content own_tabled, inr (inr (record { at = 0; within = omega arith; points = second_points own content (omega arith) })))))
 
   short_missing : AllLent (memory short content) (plan_of two) → ⊥
   unfolding plan_of rows
@@ -204,7 +214,7 @@ module _ (content : ℕ → ℕ → ℕ) where
         | inr x ↦ none_shared short content short_spread j k (omega (arith, l)) l x
       ]))
 
-  mailbox_missing : checked two (memory short content) ≡ Err FramesMissing
+  pub mailbox_missing : checked two (memory short content) ≡ Err FramesMissing
   unfolding faults on_frames
   mailbox_missing =
       let ws = memory short content in
@@ -223,10 +233,9 @@ module _ (content : ℕ → ℕ → ℕ) where
   tableless_unread =
       let ws = memory tableless content in
       let size = long tableless content in
-      let points : Pointer (word ws 3 0) 8 = subst (λ e. Pointer e 8) (sym (word_at tableless content 3 0 (omega arith) (omega arith))) (pointer 8) in
       inr (
         (6, record { leaf = _; leads = leads_first_17 tableless content (omega arith); readable = refl; not_writable = λ e. absurd (true≢false (sym e)); frame_is = refl }),
-        PageUnread.no_table 0 17 8 (omega arith) (omega arith) refl (there tableless content 3 (omega arith) (omega arith)) points (omega arith) (λ lent. omega (arith, size, lent)),
+        PageUnread.no_table 0 17 8 (omega arith) (omega arith) refl (there tableless content 3 (omega arith) (omega arith)) (second_points tableless content (omega arith)) (omega arith) (λ lent. omega (arith, size, lent)),
       )
 
   tableless_some : first (ends_refusal (memory tableless content) (plan_of two)) (plan_of two).counts.channels ≡ Some FramesMissing
@@ -237,17 +246,6 @@ module _ (content : ℕ → ℕ → ℕ) where
       first_stays (ends_refusal ws p) 0 p.counts.channels FramesMissing (omega arith) (first_none (ends_refusal ws p))
       (ap (refused_by (ChannelPage 0)) (unread_unlent ws p 0 tableless_unread))
 
-  table_missing : checked two (memory tableless content) ≡ Err FramesMissing
+  pub table_missing : checked two (memory tableless content) ≡ Err FramesMissing
   unfolding faults on_frames
   table_missing = refused_two (memory tableless content) FramesMissing (rw tableless_some refl)
-
-pub refuses : Refuses
-refuses = record {
-  receiver_writes = receiver_writes;
-  root_twice = root_twice;
-  too_many = too_many;
-  no_frame = no_frame;
-  both_name = both_name;
-  mailbox_missing = mailbox_missing;
-  table_missing = table_missing;
-}

@@ -10,7 +10,7 @@ use Rattle.checker.specs.Lawful.{Formed, Leads, Lent, TableFormed}
 use Rattle.sample.specs.Memory.{points_at, root_entry, table_entry}
 use Rattle.sample.proofs.Entries.{frame_at, leaf_form, pointer, valid_of}
 
-not_valid : is_valid 0 ≡ true → ⊥
+pub not_valid : is_valid 0 ≡ true → ⊥
 unfolding flag
 not_valid e = true≢false (sym e)
 

@@ -1,5 +1,5 @@
 -- What the checker says of the plan and its memory.
-use Rattle.std.specs.Prelude.{◌≡◌, ℕ, ◌<◌, ◌≤◌, ◌≢◌, List, Ok, Err}
+use Rattle.std.specs.Prelude.{◌≡◌, ℕ, ◌<◌, ◌≤◌, ◌≢◌, List, [], ◌∷◌, ◌++◌, take, Ok, Err, slice_set}
 use Rattle.words.specs.Frames.{word}
 use Rattle.paging.specs.Tables.{Owns}
 use Rattle.plan.specs.declared.refusal.Refusal.TheVariants.{ChannelPage, FrameShared, FramesMissing, RootRule, TableMalformed}
@@ -84,6 +84,18 @@ short = record { table = 4; code = 5; mailbox = 7; frames = 7 }
 abbrev pub tableless : Layout
 tableless = record { table = 8; code = 5; mailbox = 7; frames = 8 }
 
+-- page 16 of the second in the frame of its own table
+abbrev pub own : Layout
+own = record { table = 4; code = 4; mailbox = 7; frames = 8 }
+
+-- the plan without its channel, and with another root of the second
+abbrev pub unjoined : ℕ → List ℕ
+unjoined root = slice_set (take 29 (planned root 0 1 17)) 2 0
+
+-- the plan with a budget for two messages, and a second channel from page 17 of the first, to page 16 of the second
+abbrev pub forked : List ℕ
+forked = slice_set (slice_set two 2 2) 4 10 ++ (0 ∷ 1 ∷ 17 ∷ 0 ∷ 0 ∷ 0 ∷ 16 ∷ 0 ∷ 0 ∷ 0 ∷ [])
+
 -- each is refused by its rule, at its place
 pub record Refuses : Type 0 where
   pub receiver_writes : (content : ℕ → ℕ → ℕ) → checked turned (memory here content) ≡ Err (ChannelPage 0)
@@ -93,3 +105,11 @@ pub record Refuses : Type 0 where
   pub both_name : (content : ℕ → ℕ → ℕ) → checked two (memory shared content) ≡ Err (FrameShared 1)
   pub mailbox_missing : (content : ℕ → ℕ → ℕ) → checked two (memory short content) ≡ Err FramesMissing
   pub table_missing : (content : ℕ → ℕ → ℕ) → checked two (memory tableless content) ≡ Err FramesMissing
+  -- without a channel the missing table is met in the turn of the rule on page tables
+  pub table_unread : (content : ℕ → ℕ → ℕ) → checked (unjoined 3) (memory tableless content) ≡ Err FramesMissing
+  -- a partition names its own table, or an earlier one names its root, which is empty
+  pub names_own : (content : ℕ → ℕ → ℕ) → checked two (memory own content) ≡ Err (FrameShared 1)
+  pub root_named : (content : ℕ → ℕ → ℕ) → ((k : ℕ) → content 2 k ≡ 0) → checked (unjoined 2) (memory here content) ≡ Err (FrameShared 1)
+  -- one page for two channels, and a root with a leaf, the first partition's table
+  pub sends_twice : (content : ℕ → ℕ → ℕ) → checked forked (memory here content) ≡ Err (ChannelPage 1)
+  pub leaf_in_root : (content : ℕ → ℕ → ℕ) → checked (unjoined 1) (memory here content) ≡ Err (TableMalformed 1)

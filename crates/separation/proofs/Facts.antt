@@ -11,6 +11,7 @@ use Rattle.plan.specs.declared.refusal.Count.TheVariants.{Partitions, Slots}
 use Rattle.plan.specs.Format.{plan_of}
 use Rattle.plan.specs.Rules.{ample, channel}
 use Rattle.plan.specs.Timetable.{begins, slot_of}
+use Rattle.plan.proofs.Stages.{ample_fits}
 use Rattle.plan.proofs.Times.{lawful_bounded as bounded}
 use Rattle.checker.specs.declared.Accepted.{Accepted}
 use Rattle.checker.specs.declared.pages.Ends.{Ends}
@@ -119,7 +120,7 @@ facts_of bytes ws a e =
       timely = record {
         few = (law.plan.counts Partitions).1;
         runs = λ n. (law.plan.slots (n % (plan_of bytes).counts.slots) (mod_below n (plan_of bytes).counts.slots (omega (arith, (law.plan.counts Slots).0)))).0;
-        ample = law.plan.budget.2;
+        ample = ample_fits (plan_of bytes) law.plan.budget;
         bounded = bounded bytes law.plan;
       };
     }
