@@ -1,7 +1,8 @@
 // A hart with five frames of memory.
-ghost use Rattle.std.specs.Prelude.{◌≡◌};
+ghost use Rattle.std.specs.Prelude.{◌≡◌, length};
 ghost use Rattle.isa.specs.Registers.{held, register, written};
-ghost use Rattle.hart.specs.Core.{first_core};
+ghost use Rattle.hart.specs.Core.{first_core, step_of};
+ghost use Rattle.conformance.specs.Running.{Ran, moment_of, next, with_code};
 
 use hart::context::State;
 use hart::step::Core;
@@ -42,7 +43,9 @@ impl Machine {
     }
 
     // Puts words into the code's page, from its start on.
-    pub fn put_code(&mut self, words: &[u32]) {
+    pub fn put_code(&mut self, words: &[u32])
+        ensures { moment_of self.new ≡ with_code words.now (moment_of self.old) }
+    {
         put(&mut self.words, CODE_FRAME, 0, words);
     }
 
@@ -52,14 +55,19 @@ impl Machine {
     }
 
     // One instruction: its cycles.
-    pub fn step(&mut self) -> u32 {
+    pub fn step(&mut self) -> u32
+        ensures cost { result ≡ (step_of self.old.core self.old.words).cost }
+        ensures moment { moment_of self.new ≡ next (moment_of self.old) }
+    {
         self.core.step(&mut self.words, &mut self.decoder)
     }
 
     // Puts the words at the start and runs so many instructions; none where the program stopped.
-    pub fn run_for(&mut self, words: &[u32], instructions: usize) -> Option<()> {
+    pub fn run_for(&mut self, words: &[u32], instructions: usize) -> Option<()>
+        ensures { Ran words.now instructions self.old self.new result }
+    {
         self.put_code(words);
-        for _ in 0..instructions {
+        for _turn in 0..instructions {
             self.step();
         }
         self.core.context.state.is_ready().then_some(())
@@ -94,8 +102,8 @@ impl Runner for Machine {
 
     ghost counter = { λ m. m.core.context.pc };
 
-    // nothing is promised of a run: the vectors test it
-    ghost runs = { λ _ _ _ _. Unit {0} };
+    // what the decoder remembers after a run is left open
+    ghost runs = { λ before code answer now. Ran code (length code) before now answer };
 
     // Registers, counter, tables and clock as at first.
     fn restart(&mut self) {
