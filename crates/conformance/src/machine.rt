@@ -2,7 +2,7 @@
 ghost use Rattle.std.specs.Prelude.{◌≡◌, length};
 ghost use Rattle.isa.specs.Registers.{held, register, written};
 ghost use Rattle.hart.specs.Core.{first_core, step_of};
-ghost use Rattle.conformance.specs.Running.{Ran, moment_of, next, with_code};
+ghost use Rattle.conformance.specs.Running.{Ran, after, at_counter, at_first, cause_of, moment_of, next, value_in, with_code, with_data};
 
 use hart::context::State;
 use hart::step::Core;
@@ -20,7 +20,9 @@ pub struct Machine {
 }
 
 impl Machine {
-    pub fn new() -> Machine {
+    pub fn new() -> Machine
+        ensures { moment_of result ≡ at_first }
+    {
         let mut words = [0; MEMORY_WORDS];
         lay_out(&mut words);
         Machine {
@@ -30,12 +32,16 @@ impl Machine {
         }
     }
 
-    pub fn go_to(&mut self, pc: u32) {
+    pub fn go_to(&mut self, pc: u32)
+        ensures { moment_of self.new ≡ at_counter pc (moment_of self.old) }
+    {
         self.core.context.pc = pc;
     }
 
     // The number of the cause, where the program stopped: it is what docs/MACHINE.md gives, and so what the cases test.
-    pub fn cause(&self) -> Option<u32> {
+    pub fn cause(&self) -> Option<u32>
+        ensures { result ≡ cause_of self.now.core.context.state }
+    {
         match self.core.context.state {
             State::Ready => None,
             State::Stopped { cause, .. } => Some(u32::from(cause.number())),
@@ -50,7 +56,9 @@ impl Machine {
     }
 
     // Puts words into page 17, from a place on.
-    pub fn put_data(&mut self, at: u32, words: &[u32]) {
+    pub fn put_data(&mut self, at: u32, words: &[u32])
+        ensures { moment_of self.new ≡ with_data at words.now (moment_of self.old) }
+    {
         put(&mut self.words, DATA_FRAME, at, words);
     }
 
@@ -74,7 +82,10 @@ impl Machine {
     }
 
     // Runs the words: what the register holds then, none where the program stopped.
-    pub fn result_of(&mut self, words: &[u32], register: u32) -> Option<u32> {
+    pub fn result_of(&mut self, words: &[u32], register: u32) -> Option<u32>
+        ensures moment { moment_of self.new ≡ after (length words.now) (with_code words.now (moment_of self.old)) }
+        ensures value { result ≡ value_in register (moment_of self.new) }
+    {
         self.run(words)?;
         Some(self.get(register))
     }
