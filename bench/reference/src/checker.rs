@@ -173,11 +173,16 @@ fn check_starts(plan: &Plan) -> Result<(), Refusal> {
     broken.map_or(Ok(()), |place| Err(Refusal::new(Rule::Start, place)))
 }
 
-fn check_budget(plan: &Plan) -> Result<(), Refusal> {
+/// The least budget that is ample.
+pub fn ample(plan: &Plan) -> u32 {
     let overshoot = HIGHEST - 1;
     let write_backs = LINES as u64 * WRITE_BACK;
     let messages = plan.most_channels_out() as u64 * FRAME_WORDS as u64 * COPIED_WORD;
-    if BUDGETS.contains(&plan.budget) && u64::from(plan.budget) >= overshoot + write_backs + messages {
+    (overshoot + write_backs + messages) as u32
+}
+
+fn check_budget(plan: &Plan) -> Result<(), Refusal> {
+    if BUDGETS.contains(&plan.budget) && plan.budget >= ample(plan) {
         Ok(())
     } else {
         Err(Refusal::new(Rule::Budget, 3))

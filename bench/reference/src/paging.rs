@@ -2,13 +2,15 @@
 
 use crate::memory::{Memory, FRAME_WORDS, MOST_FRAMES};
 
-const V: u32 = 1 << 0;
-const R: u32 = 1 << 1;
-const W: u32 = 1 << 2;
-const X: u32 = 1 << 3;
-const U: u32 = 1 << 4;
-const A: u32 = 1 << 6;
-const D: u32 = 1 << 7;
+pub const V: u32 = 1 << 0;
+pub const R: u32 = 1 << 1;
+pub const W: u32 = 1 << 2;
+pub const X: u32 = 1 << 3;
+pub const U: u32 = 1 << 4;
+/// Nobody looks at it.
+pub const G: u32 = 1 << 5;
+pub const A: u32 = 1 << 6;
+pub const D: u32 = 1 << 7;
 
 #[derive(Clone, Copy, Debug, PartialEq, Eq)]
 pub enum Access {

@@ -1,12 +1,13 @@
 //! Cases with broken rules: an accepted case, and one or a few changes to the bytes of its plan and image.
 
+use reference::checker::ample;
 use reference::image;
 use reference::memory::{Memory, FRAME_WORDS};
+use reference::paging::{A, D, R, U, V, W, X};
 use reference::plan::{Channel, Plan};
 
-use crate::case::{ample, Case};
+use crate::case::Case;
 use crate::rng::Rng;
-use crate::world::{A, D, R, U, V, W, X};
 
 /// The files of a case.
 pub struct Files {

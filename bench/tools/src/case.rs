@@ -2,6 +2,7 @@
 
 use std::collections::BTreeSet;
 
+use reference::checker::ample;
 use reference::memory::{Memory, MOST_FRAMES};
 use reference::plan::{Channel, Partition, Plan, Slot};
 
@@ -55,11 +56,6 @@ fn slot(count: usize, rng: &mut Rng) -> Slot {
         _ => rng.between(5000, 30000),
     };
     Slot { partition: rng.below(count), length: length as u32 }
-}
-
-/// The least budget that is ample.
-pub fn ample(plan: &Plan) -> u32 {
-    90 + 64 * 10 + 1024 * plan.most_channels_out() as u32
 }
 
 fn budget(ample: u32, rng: &mut Rng) -> u32 {

@@ -3,10 +3,11 @@
 use std::collections::BTreeSet;
 
 use reference::memory::FRAME_WORDS;
+use reference::paging::{R, W, X};
 
 use crate::program::{program, Page, Surroundings};
 use crate::rng::Rng;
-use crate::world::{World, R, W, X};
+use crate::world::World;
 
 /// What the plan says of a partition.
 #[derive(Clone, Debug)]

@@ -3,17 +3,9 @@
 use std::collections::BTreeSet;
 
 use reference::memory::{Memory, FRAME_WORDS};
+use reference::paging::{A, D, G, U, V};
 
 use crate::rng::Rng;
-
-pub const V: u32 = 1;
-pub const R: u32 = 2;
-pub const W: u32 = 4;
-pub const X: u32 = 8;
-pub const U: u32 = 16;
-pub const G: u32 = 32;
-pub const A: u32 = 64;
-pub const D: u32 = 128;
 
 pub struct World {
     words: Vec<u32>,

@@ -1,7 +1,8 @@
 // A hart with five frames of memory.
-ghost use Rattle.std.specs.Prelude.{◌≡◌};
+ghost use Rattle.std.specs.Prelude.{◌≡◌, length};
 ghost use Rattle.isa.specs.Registers.{held, register, written};
-ghost use Rattle.hart.specs.Core.{first_core};
+ghost use Rattle.hart.specs.Core.{first_core, step_of};
+ghost use Rattle.conformance.specs.Running.{Ran, after, at_counter, at_first, cause_of, moment_of, next, value_in, with_code, with_data};
 
 use hart::context::State;
 use hart::step::Core;
@@ -19,7 +20,9 @@ pub struct Machine {
 }
 
 impl Machine {
-    pub fn new() -> Machine {
+    pub fn new() -> Machine
+        ensures { moment_of result ≡ at_first }
+    {
         let mut words = [0; MEMORY_WORDS];
         lay_out(&mut words);
         Machine {
@@ -29,12 +32,16 @@ impl Machine {
         }
     }
 
-    pub fn go_to(&mut self, pc: u32) {
+    pub fn go_to(&mut self, pc: u32)
+        ensures { moment_of self.new ≡ at_counter pc (moment_of self.old) }
+    {
         self.core.context.pc = pc;
     }
 
     // The number of the cause, where the program stopped: it is what docs/MACHINE.md gives, and so what the cases test.
-    pub fn cause(&self) -> Option<u32> {
+    pub fn cause(&self) -> Option<u32>
+        ensures { result ≡ cause_of self.now.core.context.state }
+    {
         match self.core.context.state {
             State::Ready => None,
             State::Stopped { cause, .. } => Some(u32::from(cause.number())),
@@ -42,31 +49,43 @@ impl Machine {
     }
 
     // Puts words into the code's page, from its start on.
-    pub fn put_code(&mut self, words: &[u32]) {
+    pub fn put_code(&mut self, words: &[u32])
+        ensures { moment_of self.new ≡ with_code words.now (moment_of self.old) }
+    {
         put(&mut self.words, CODE_FRAME, 0, words);
     }
 
     // Puts words into page 17, from a place on.
-    pub fn put_data(&mut self, at: u32, words: &[u32]) {
+    pub fn put_data(&mut self, at: u32, words: &[u32])
+        ensures { moment_of self.new ≡ with_data at words.now (moment_of self.old) }
+    {
         put(&mut self.words, DATA_FRAME, at, words);
     }
 
     // One instruction: its cycles.
-    pub fn step(&mut self) -> u32 {
+    pub fn step(&mut self) -> u32
+        ensures cost { result ≡ (step_of self.old.core self.old.words).cost }
+        ensures moment { moment_of self.new ≡ next (moment_of self.old) }
+    {
         self.core.step(&mut self.words, &mut self.decoder)
     }
 
     // Puts the words at the start and runs so many instructions; none where the program stopped.
-    pub fn run_for(&mut self, words: &[u32], instructions: usize) -> Option<()> {
+    pub fn run_for(&mut self, words: &[u32], instructions: usize) -> Option<()>
+        ensures { Ran words.now instructions self.old self.new result }
+    {
         self.put_code(words);
-        for _ in 0..instructions {
+        for _turn in 0..instructions {
             self.step();
         }
         self.core.context.state.is_ready().then_some(())
     }
 
     // Runs the words: what the register holds then, none where the program stopped.
-    pub fn result_of(&mut self, words: &[u32], register: u32) -> Option<u32> {
+    pub fn result_of(&mut self, words: &[u32], register: u32) -> Option<u32>
+        ensures moment { moment_of self.new ≡ after (length words.now) (with_code words.now (moment_of self.old)) }
+        ensures value { result ≡ value_in register (moment_of self.new) }
+    {
         self.run(words)?;
         Some(self.get(register))
     }
@@ -94,8 +113,8 @@ impl Runner for Machine {
 
     ghost counter = { λ m. m.core.context.pc };
 
-    // nothing is promised of a run: the vectors test it
-    ghost runs = { λ _ _ _ _. Unit {0} };
+    // what the decoder remembers after a run is left open
+    ghost runs = { λ before code answer now. Ran code (length code) before now answer };
 
     // Registers, counter, tables and clock as at first.
     fn restart(&mut self) {

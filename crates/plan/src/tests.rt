@@ -141,17 +141,6 @@ fn budgets(rt: HostRuntime) {
 }
 
 #[test]
-fn budgets_alone(rt: HostRuntime) {
-    for (budget, ample_with, ample_without) in BUDGETS {
-        let mut plan = Plan::read(&PLAN);
-        plan.budget = budget;
-        assert_eq!(rt; plan.check_budget().is_ok(), ample_with);
-        plan.counts.channels = 0;
-        assert_eq!(rt; plan.check_budget().is_ok(), ample_without);
-    }
-}
-
-#[test]
 fn turns_end_before_they_wrap(rt: HostRuntime) -> Result<(), Fail> {
     let Ok(plan) = parse(&PLAN) else {
         return Err(Fail::new("refused"));

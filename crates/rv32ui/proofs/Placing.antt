@@ -1,11 +1,12 @@
 -- Parts with places of their own: an OR of them is their sum.
 use Rattle.std.proofs.Common.{◌≡◌, ℕ, ◌+◌, ◌*◌, ◌/◌, ◌%◌, ◌^◌, ◌<◌, bit_or, sym, refl, ◌∙◌, ap, arith}
 use Rattle.std.proofs.Math.Nat.{div-add-mod'}
+use Rattle.std.specs.Prelude.{pos, neg_ℤ}
 use Rattle.std.proofs.lemmas.Nat.{mod_below, or_block, or_comm, or_shifted}
 use Rattle.std.specs.Int.Bits.{or_zero_l, or_zero_r}
 use Rattle.words.specs.Bits.{field}
-use Rattle.rv32ui.specs.Words.{branch_format, constant_format, jal_format, offset_bits, placed, register_format, store_format, upper_format}
-use Rattle.rv32ui.specs.Laws.{BranchWords, ConstantWords, JalWords, RegisterWords, StoreWords, UpperWords}
+use Rattle.rv32ui.specs.Words.{branch_format, jal_format, offset_bits, operand_format, placed, store_format, upper_format}
+use Rattle.rv32ui.specs.Laws.{BranchWords, ConstantWords, Example, JalWords, RegisterWords, StoreWords, UpperWords}
 
 -- a part that goes to the bits from j to k of a word, which are 0 there
 module _ (word part j k : ℕ) (free : word % 2 ^ k < 2 ^ j) (fits : part * 2 ^ j < 2 ^ k) where
@@ -30,7 +31,7 @@ register_words fixed t f s hf ht hs a b c =
     let e1 = put fixed t 7 12 (omega arith) (omega arith) (omega arith) in
     let e2 = put (fixed + t * 2 ^ 7) f 15 20 (omega arith) (omega arith) (omega arith) in
     let e3 = put (fixed + t * 2 ^ 7 + f * 2 ^ 15) s 20 25 (omega arith) (omega arith) (omega arith) in
-    let e : register_format fixed t f s ≡ fixed + t * 2 ^ 7 + f * 2 ^ 15 + s * 2 ^ 20 =
+    let e : operand_format fixed t f s ≡ fixed + t * 2 ^ 7 + f * 2 ^ 15 + s * 2 ^ 20 =
     ap (λ w. bit_or (bit_or w (placed f 15)) (placed s 20)) e1 ∙ ap (λ w. bit_or w (placed s 20)) e2 ∙ e3 in
     record {
       kept = record { opcode = omega (arith, e); funct3 = omega (arith, e) };
@@ -42,7 +43,7 @@ register_words fixed t f s hf ht hs a b c =
 
 -- the word of a constant
 constant_is : (fixed t s v : ℕ) → fixed < 2 ^ 15 → field fixed 7 5 ≡ 0 → t < 32 → s < 32 → v < 2 ^ 12 →
-    constant_format fixed t s v ≡ fixed + t * 2 ^ 7 + s * 2 ^ 15 + v * 2 ^ 20
+    operand_format fixed t s v ≡ fixed + t * 2 ^ 7 + s * 2 ^ 15 + v * 2 ^ 20
 constant_is fixed t s v hf ht a b c =
     let e1 = put fixed t 7 12 (omega arith) (omega arith) (omega arith) in
     let e2 = put (fixed + t * 2 ^ 7) s 15 20 (omega arith) (omega arith) (omega arith) in
@@ -126,3 +127,25 @@ jal_words t offset ht even =
     ∙ ap (λ n. bit_or n (bit_or (placed c 12) (placed d 31))) with_ab
     ∙ ap (bit_or w) c_and_d ∙ with_cd in
     record { opcode = omega (arith, e); in_target = omega (arith, e); in_offset = omega (arith, e) }
+
+pub example : Example
+example = record {
+  add = register_words 0x33 14 1 2 (omega arith) refl refl (omega arith) (omega arith) (omega arith);
+  add_word = refl;
+  srai = register_words 0x40005013 2 2 20 (omega arith) refl refl (omega arith) (omega arith) (omega arith);
+  srai_word = refl;
+  addi = constant_words 0x13 5 5 4 (omega arith) refl (omega arith) (omega arith) (omega arith);
+  addi_word = refl;
+  lb = constant_words 0x3 14 2 0xffd (omega arith) refl (omega arith) (omega arith) (omega arith);
+  lb_word = refl;
+  jalr = constant_words 0x67 0 4 20 (omega arith) refl (omega arith) (omega arith) (omega arith);
+  jalr_word = refl;
+  lui = upper_words 0x37 2 17 (omega arith) (omega arith) (omega arith);
+  lui_word = refl;
+  beq = branch_words 0x63 1 2 (omega arith) refl (omega arith) (omega arith);
+  beq_word = refl;
+  sh = store_words 0x1023 2 1 (neg_ℤ (pos 32)) (omega arith) refl (omega arith) (omega arith);
+  sh_word = refl;
+  jal = jal_words 1 (pos 2048) (omega arith) refl;
+  jal_word = refl;
+}

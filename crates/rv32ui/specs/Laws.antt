@@ -1,14 +1,14 @@
 -- What the instruction words come to: each part that is named stands in its place of the manual's format, and the fixed bits stay.
-use Rattle.std.specs.Prelude.{◌≡◌, ℕ, ◌+◌, ◌*◌, ◌%◌, ◌^◌, ◌<◌, ℤ}
+use Rattle.std.specs.Prelude.{◌≡◌, ℕ, ◌+◌, ◌*◌, ◌%◌, ◌^◌, ◌<◌, ℤ, pos, neg_ℤ}
 use Rattle.words.specs.Bits.{field}
-use Rattle.rv32ui.specs.Words.{branch_format, constant_format, jal_format, offset_bits, register_format, store_format, upper_format}
+use Rattle.rv32ui.specs.Words.{branch_format, jal_format, jalr_format, load_format, offset_bits, operand_format, store_format, upper_format}
 
--- the fields opcode, funct3 and funct7 of a word are those of the fixed bits
+-- the fields opcode and funct3 of a word are those of the fixed bits
 pub record Opcode (w fixed : ℕ) : Type 0 where
   pub opcode : field w 0 7 ≡ field fixed 0 7
   pub funct3 : field w 12 3 ≡ field fixed 12 3
 
--- two registers are read and one is written; a shift has its amount where the second stands
+-- two registers are read and one is written; a shift by a constant has its amount where the second stands
 pub record RegisterWord (w fixed target first second : ℕ) : Type 0 where
   pub kept : Opcode w fixed
   pub funct7 : field w 25 7 ≡ field fixed 25 7
@@ -18,7 +18,7 @@ pub record RegisterWord (w fixed target first second : ℕ) : Type 0 where
 
 abbrev pub RegisterWords : Type 0
 RegisterWords = (fixed target first second : ℕ) → fixed < 2 ^ 32 → field fixed 7 5 ≡ 0 → field fixed 15 10 ≡ 0 →
-    target < 32 → first < 32 → second < 32 → RegisterWord (register_format fixed target first second) fixed target first second
+    target < 32 → first < 32 → second < 32 → RegisterWord (operand_format fixed target first second) fixed target first second
 
 -- a constant of twelve bits, of which an offset is one
 pub record ConstantWord (w fixed target source value : ℕ) : Type 0 where
@@ -29,7 +29,7 @@ pub record ConstantWord (w fixed target source value : ℕ) : Type 0 where
 
 abbrev pub ConstantWords : Type 0
 ConstantWords = (fixed target source value : ℕ) → fixed < 2 ^ 15 → field fixed 7 5 ≡ 0 →
-    target < 32 → source < 32 → value < 2 ^ 12 → ConstantWord (constant_format fixed target source value) fixed target source value
+    target < 32 → source < 32 → value < 2 ^ 12 → ConstantWord (operand_format fixed target source value) fixed target source value
 
 -- a constant of twenty bits
 pub record UpperWord (w fixed target value : ℕ) : Type 0 where
@@ -69,3 +69,26 @@ pub record JalWord (w target : ℕ) (offset : ℤ) : Type 0 where
 
 abbrev pub JalWords : Type 0
 JalWords = (target : ℕ) (offset : ℤ) → target < 32 → offset_bits offset % 2 ≡ 0 → JalWord (jal_format target offset) target offset
+
+-- the laws of words that LLVM's assembler makes too
+pub record Example : Type 0 where
+  -- add x14, x1, x2; srai x2, x2, 20; addi x5, x5, 4; lb x14, -3(x2); jalr x0, 20(x4)
+  pub add : RegisterWord (operand_format 0x33 14 1 2) 0x33 14 1 2
+  pub add_word : operand_format 0x33 14 1 2 ≡ 0x00208733
+  pub srai : RegisterWord (operand_format 0x40005013 2 2 20) 0x40005013 2 2 20
+  pub srai_word : operand_format 0x40005013 2 2 20 ≡ 0x41415113
+  pub addi : ConstantWord (operand_format 0x13 5 5 4) 0x13 5 5 4
+  pub addi_word : operand_format 0x13 5 5 4 ≡ 0x00428293
+  pub lb : ConstantWord (load_format 0x3 14 2 (neg_ℤ (pos 3))) 0x3 14 2 0xffd
+  pub lb_word : load_format 0x3 14 2 (neg_ℤ (pos 3)) ≡ 0xffd10703
+  pub jalr : ConstantWord (jalr_format 0 4 (pos 20)) 0x67 0 4 20
+  pub jalr_word : jalr_format 0 4 (pos 20) ≡ 0x01420067
+  -- lui x2, 17; beq x1, x2, 16; sh x1, -32(x2); jal x1, 2048
+  pub lui : UpperWord (upper_format 0x37 2 17) 0x37 2 17
+  pub lui_word : upper_format 0x37 2 17 ≡ 0x00011137
+  pub beq : BranchWord (branch_format 0x63 1 2) 0x63 1 2
+  pub beq_word : branch_format 0x63 1 2 ≡ 0x00208863
+  pub sh : StoreWord (store_format 0x1023 2 1 (neg_ℤ (pos 32))) 0x1023 2 1 (neg_ℤ (pos 32))
+  pub sh_word : store_format 0x1023 2 1 (neg_ℤ (pos 32)) ≡ 0xfe111023
+  pub jal : JalWord (jal_format 1 (pos 2048)) 1 (pos 2048)
+  pub jal_word : jal_format 1 (pos 2048) ≡ 0x001000ef

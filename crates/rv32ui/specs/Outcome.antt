@@ -5,7 +5,7 @@ use Rattle.rv32ui.specs.declared.operation.Form.TheVariants.{Registers, Constant
 use Rattle.rv32ui.specs.declared.operation.Operation.{Operation}
 use Rattle.rv32ui.specs.declared.row.Row.{Row}
 use Rattle.rv32ui.specs.Roles.{roles_of}
-use Rattle.rv32ui.specs.Words.{register_format, constant_format, branch_format, upper_format}
+use Rattle.rv32ui.specs.Words.{operand_format, branch_format, upper_format}
 
 -- the operands in their registers, and then a write to register 0
 abbrev pub prepared : {S : Type 0} → (S → S) → (S → ℕ → ℕ → S) → Row → S → S
@@ -15,18 +15,19 @@ prepared restarted given row core =
 
 -- the words, where the second of two is SRAI or ADDI
 abbrev pub words_by : Form → ℕ → Row → List ℕ
-words_by Registers fixed row = let roles = roles_of row.0 in register_format fixed roles.target roles.first roles.second ∷ []
-words_by Constant fixed row = let roles = roles_of row.0 in constant_format fixed roles.target roles.first row.3 ∷ []
+words_by Registers fixed row = let roles = roles_of row.0 in operand_format fixed roles.target roles.first roles.second ∷ []
+words_by Constant fixed row = let roles = roles_of row.0 in operand_format fixed roles.target roles.first row.3 ∷ []
 words_by Branch fixed row = let roles = roles_of row.0 in branch_format fixed roles.first roles.second ∷ []
 words_by Upper fixed row =
-    let roles = roles_of row.0 in upper_format fixed roles.target row.2 ∷ constant_format 0x40005013 roles.target roles.target row.3 ∷ []
+    let roles = roles_of row.0 in upper_format fixed roles.target row.2 ∷ operand_format 0x40005013 roles.target roles.target row.3 ∷ []
 words_by Relative fixed row =
-    let roles = roles_of row.0 in upper_format fixed roles.target row.2 ∷ constant_format 0x13 roles.target roles.target row.3 ∷ []
+    let roles = roles_of row.0 in upper_format fixed roles.target row.2 ∷ operand_format 0x13 roles.target roles.target row.3 ∷ []
 
 abbrev pub words_of : Operation → Row → List ℕ
 words_of operation row = words_by operation.form operation.fixed row
 
--- what is read after them: what the target holds, or where the counter is, which was at `start`
+-- what is read after them: what the target holds; of a branch 1 where the counter is 16 bytes past `start`, where it was, and else 0;
+-- of AUIPC how far what the target holds is past start + 12, where the suite's third instruction ends
 abbrev pub reading : Form → ℕ → ℕ → ℕ → ℕ
 reading Registers start counter held = held
 reading Constant start counter held = held

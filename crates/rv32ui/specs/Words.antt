@@ -10,11 +10,9 @@ placed value low = value * 2 ^ low % 2 ^ 32
 abbrev pub offset_bits : ℤ → ℕ
 offset_bits offset = cast_unsigned w32 offset
 
-abbrev pub register_format : ℕ → ℕ → ℕ → ℕ → ℕ
-register_format fixed target first second = bit_or (bit_or (bit_or fixed (placed target 7)) (placed first 15)) (placed second 20)
-
-abbrev pub constant_format : ℕ → ℕ → ℕ → ℕ → ℕ
-constant_format fixed target source value = bit_or (bit_or (bit_or fixed (placed target 7)) (placed source 15)) (placed value 20)
+-- the second operand stands from bit 20 on: a register, a constant of twelve bits, or the amount of a shift
+abbrev pub operand_format : ℕ → ℕ → ℕ → ℕ → ℕ
+operand_format fixed target first second = bit_or (bit_or (bit_or fixed (placed target 7)) (placed first 15)) (placed second 20)
 
 abbrev pub upper_format : ℕ → ℕ → ℕ → ℕ
 upper_format fixed target value = bit_or (bit_or fixed (placed target 7)) (placed value 12)
@@ -25,7 +23,7 @@ branch_format fixed first second = bit_or (bit_or (bit_or fixed (placed 8 8)) (p
 
 -- the low twelve bits of the offset in the constant's place
 abbrev pub load_format : ℕ → ℕ → ℕ → ℤ → ℕ
-load_format fixed target base offset = constant_format fixed target base (offset_bits offset % 2 ^ 12)
+load_format fixed target base offset = operand_format fixed target base (offset_bits offset % 2 ^ 12)
 
 -- bits 4 to 0 of the offset in the target's place, 11 to 5 at the top
 abbrev pub store_format : ℕ → ℕ → ℕ → ℤ → ℕ

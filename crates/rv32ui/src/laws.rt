@@ -1,5 +1,5 @@
 // What the definitions of this crate come to, owed by this function's contract.
-ghost use Rattle.rv32ui.specs.Laws.{BranchWords, ConstantWords, JalWords, RegisterWords, StoreWords, UpperWords};
+ghost use Rattle.rv32ui.specs.Laws.{BranchWords, ConstantWords, Example, JalWords, RegisterWords, StoreWords, UpperWords};
 
 pub fn laws()
     ensures registers { RegisterWords }
@@ -8,4 +8,5 @@ pub fn laws()
     ensures branches { BranchWords }
     ensures stores { StoreWords }
     ensures jumps { JalWords }
+    ensures example { Example }
 {}

@@ -67,11 +67,11 @@ pub fn outcome<R: Runner>(core: &mut R, operation: &Operation, row: Row) -> Opti
     let start = core.pc();
     let result = match form {
         Form::Registers => {
-            core.run(&[register_word(fixed, target, first, second)])?;
+            core.run(&[operand_word(fixed, target, first, second)])?;
             core.get(target)
         }
         Form::Constant => {
-            core.run(&[constant_word(fixed, target, first, right)])?;
+            core.run(&[operand_word(fixed, target, first, right)])?;
             core.get(target)
         }
         Form::Branch => {
@@ -79,12 +79,12 @@ pub fn outcome<R: Runner>(core: &mut R, operation: &Operation, row: Row) -> Opti
             u32::from(core.pc() == start.wrapping_add(16))
         }
         Form::Upper => {
-            let shift = constant_word(SRAI, target, target, right);
+            let shift = operand_word(SRAI, target, target, right);
             core.run(&[upper_word(fixed, target, left), shift])?;
             core.get(target)
         }
         Form::Relative => {
-            let sum = constant_word(ADDI, target, target, right);
+            let sum = operand_word(ADDI, target, target, right);
             core.run(&[upper_word(fixed, target, left), sum])?;
             core.get(target).wrapping_sub(start.wrapping_add(12))
         }

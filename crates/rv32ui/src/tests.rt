@@ -4,8 +4,8 @@ use crate::word::*;
 #[test]
 fn words_of_the_assembler(rt: HostRuntime) {
     // add x14, x1, x2; addi x5, x5, 4; lui x2, 17; beq x1, x2, 16
-    assert_eq!(rt; register_word(0x33, 14, 1, 2), 0x0020_8733);
-    assert_eq!(rt; constant_word(ADDI, 5, 5, 4), 0x0042_8293);
+    assert_eq!(rt; operand_word(0x33, 14, 1, 2), 0x0020_8733);
+    assert_eq!(rt; operand_word(ADDI, 5, 5, 4), 0x0042_8293);
     assert_eq!(rt; upper_word(0x37, 2, 17), 0x0001_1137);
     assert_eq!(rt; branch_word(0x63, 1, 2), 0x0020_8863);
     // lw x6, 0(x2); lb x14, -3(x2)

@@ -1,6 +1,6 @@
 // Instruction words by the manual's opcode listing: the fixed bits of an instruction, and what it names in its place.
 ghost use Rattle.std.specs.Prelude.{◌≡◌};
-ghost use Rattle.rv32ui.specs.Words.{branch_format, constant_format, jal_format, jalr_format, load_format, register_format, store_format, upper_format};
+ghost use Rattle.rv32ui.specs.Words.{branch_format, jal_format, jalr_format, load_format, operand_format, store_format, upper_format};
 
 pub const ADDI: u32 = 0x0000_0013;
 
@@ -10,16 +10,11 @@ const JAL: u32 = 0x0000_006f;
 
 const JALR: u32 = 0x0000_0067;
 
-pub fn register_word(fixed: u32, target: u32, first: u32, second: u32) -> u32
-    ensures { result ≡ register_format fixed target first second }
+// The second operand is a register, a constant of twelve bits, or the amount of a shift: all three stand from bit 20 on.
+pub fn operand_word(fixed: u32, target: u32, first: u32, second: u32) -> u32
+    ensures { result ≡ operand_format fixed target first second }
 {
     fixed | target << 7 | first << 15 | second << 20
-}
-
-pub fn constant_word(fixed: u32, target: u32, source: u32, value: u32) -> u32
-    ensures { result ≡ constant_format fixed target source value }
-{
-    fixed | target << 7 | source << 15 | value << 20
 }
 
 pub fn upper_word(fixed: u32, target: u32, value: u32) -> u32
@@ -38,7 +33,7 @@ pub fn branch_word(fixed: u32, first: u32, second: u32) -> u32
 pub fn load_word(fixed: u32, target: u32, base: u32, offset: i32) -> u32
     ensures { result ≡ load_format fixed target base offset }
 {
-    constant_word(fixed, target, base, offset.cast_unsigned() % 4096)
+    operand_word(fixed, target, base, offset.cast_unsigned() % 4096)
 }
 
 // The low five bits of the offset stand where others have their target.

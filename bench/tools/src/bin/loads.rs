@@ -9,14 +9,16 @@ use std::io;
 use std::path::Path;
 use std::process::ExitCode;
 
+use reference::checker::ample;
 use reference::image;
 use reference::memory::FRAME_WORDS;
+use reference::paging::{R, W, X};
 use reference::plan::{Channel, Partition, Plan, Slot};
 use tools::asm::*;
-use tools::case::{ample, Case};
+use tools::case::Case;
 use tools::program::{structured, Page, Surroundings};
 use tools::rng::Rng;
-use tools::world::{World, R, W, X};
+use tools::world::World;
 
 const CODE: u32 = 16;
 const FRAMES: usize = 64;

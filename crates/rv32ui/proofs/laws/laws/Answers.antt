@@ -1,5 +1,5 @@
 -- What is left to show of `laws`.
-use Rattle.rv32ui.proofs.Placing.{branch_words, constant_words, jal_words, register_words, store_words, upper_words}
+use Rattle.rv32ui.proofs.Placing.{branch_words, constant_words, example, jal_words, register_words, store_words, upper_words}
 use Rattle.rv32ui.proofs.laws.laws.Goals as goal
 
 pub returns : goal.returns
@@ -10,4 +10,5 @@ returns c = record {
   branches = branch_words;
   stores = store_words;
   jumps = jal_words;
+  example = example;
 }

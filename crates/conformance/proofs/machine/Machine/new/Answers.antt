@@ -1,0 +1,6 @@
+-- What is left to show of `new`.
+use Rattle.std.proofs.Common.{refl}
+use Rattle.conformance.proofs.machine.Machine.new.Goals as goal
+
+pub returns : goal.returns
+returns c = rw (c.new.ensures, c.lay_out.ensures) refl

@@ -1,0 +1,59 @@
+-- What a run of words leaves on the machine of the vectors.
+use Rattle.std.specs.Prelude.{◌≡◌, ℕ, zero, suc, List, replicate, cond, Option, Some, None, is_some}
+use Rattle.rv32ui.specs.Memory.{laid_out, put_at}
+use Rattle.isa.specs.Registers.{held, register}
+use Rattle.hart.specs.declared.context.State.{State}
+use Rattle.hart.specs.declared.context.State.TheVariants.{Ready, Stopped}
+use Rattle.hart.specs.declared.step.Core.{Core}
+use Rattle.hart.specs.Causes.{cause_number}
+use Rattle.hart.specs.Core.{first_core, later, step_of}
+use Rattle.hart.specs.Execution.{is_ready}
+use Rattle.conformance.specs.declared.machine.Machine.{Machine}
+
+-- a core with the memory that it is lent
+pub record Moment : Type 0 where
+  pub core : Core
+  pub words : List ℕ
+
+-- of a machine all but what its decoder remembers, which makes no difference to a step
+abbrev pub moment_of : Machine → Moment
+moment_of m = record { core = m.core; words = m.words }
+
+-- a fresh program over five frames, with the page tables and nothing else in them
+abbrev pub at_first : Moment
+at_first = record { core = first_core 0 0x10000; words = laid_out (replicate 5120 0) }
+
+-- the counter elsewhere
+abbrev pub at_counter : ℕ → Moment → Moment
+at_counter pc m = record { core = record m.core { context = record m.core.context { pc = pc } }; words = m.words }
+
+-- one instruction
+abbrev pub next : Moment → Moment
+next m = record { core = later m.core (step_of m.core m.words); words = (step_of m.core m.words).words }
+
+-- so many instructions
+unfoldable pub after : ℕ → Moment → Moment
+after zero m = m
+after (suc n) m = next (after n m)
+
+-- the words in the frame of the code, from its start on
+abbrev pub with_code : List ℕ → Moment → Moment
+with_code code m = record { core = m.core; words = put_at m.words 2 0 code }
+
+-- words in the frame of page 17, from a place on
+abbrev pub with_data : ℕ → List ℕ → Moment → Moment
+with_data at values m = record { core = m.core; words = put_at m.words 3 at values }
+
+-- why a program stopped, if it did
+abbrev pub cause_of : State → Option ℕ
+cause_of Ready = None
+cause_of (Stopped cause pc) = Some (cause_number cause)
+
+-- what a register holds, where the program is ready
+abbrev pub value_in : ℕ → Moment → Option ℕ
+value_in r m = cond (is_ready m.core.context.state) (Some (held m.core.context.registers (register r))) None
+
+-- so many instructions from there, and an answer if and only if the program is then ready
+pub record Ran (code : List ℕ) (instructions : ℕ) (before now : Machine) (answer : Option Unit) : Type 0 where
+  pub moment : moment_of now ≡ after instructions (with_code code (moment_of before))
+  pub ready : is_some answer ≡ is_ready now.core.context.state
