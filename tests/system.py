@@ -8,7 +8,7 @@ sys.path.insert(0, os.path.join(HERE, "..", "examples"))
 CRATES = os.path.join(HERE, "..", "crates")
 RUN = os.path.join(CRATES, "run", "out", "run")
 CHECK = os.path.join(CRATES, "plan_check", "out", "plan_check")
-# a partition that sends nothing; and for each of its messages as much again
+# what the last instruction of a slot can overshoot and the write-backs of all lines take; and what each message takes
 AMPLE = 90 + 64 * 10
 MESSAGE = 1024
 

@@ -70,7 +70,7 @@ pub record JalWord (w target : ℕ) (offset : ℤ) : Type 0 where
 abbrev pub JalWords : Type 0
 JalWords = (target : ℕ) (offset : ℤ) → target < 32 → offset_bits offset % 2 ≡ 0 → JalWord (jal_format target offset) target offset
 
--- the laws of words that LLVM's assembler makes too
+-- each law at a word, and the word is the one that LLVM's assembler makes
 pub record Example : Type 0 where
   -- add x14, x1, x2; srai x2, x2, 20; addi x5, x5, 4; lb x14, -3(x2); jalr x0, 20(x4)
   pub add : RegisterWord (operand_format 0x33 14 1 2) 0x33 14 1 2
