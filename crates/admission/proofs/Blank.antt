@@ -142,6 +142,8 @@ worked = record {
   lawful = lawful blank blank_blank;
   whole = whole;
   admits = (verdict example (image_words blank) blank).accepts (lawful blank blank_blank) whole;
+  lawful_short = lawful short blank_short;
+  lawful_longer = lawful longer blank_longer;
   frame_less = rw (passes short blank_short, faulty_short) refl;
   byte_more = rw (passes longer blank_longer, faulty_longer) refl;
 }

@@ -27,8 +27,8 @@ pub record Admits (bytes words image : List ℕ) (r : Result Accepted Refusal) :
       (λ a. Sound bytes words a × Whole image)
       (λ e. FirstFound bytes words e ⊎ (Lawful bytes words × ImageBroken image e))
 
--- the verdict on two files is that on their front parts: of the plan as many bytes as the longest has and one more, and of the image those that
--- its count asks for and one more
+-- the verdict on two files is that on their front parts: of the plan as many bytes as the longest has and one more, and of the image those
+-- that its count asks for and one more
 abbrev pub TellsAll : Type 0
 TellsAll =
     (bytes image : List ℕ) (n m : ℕ) → ((i : ℕ) → byte bytes i < 256) → longest ≤ n → front_size image ≤ m →

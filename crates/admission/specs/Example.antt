@@ -26,6 +26,8 @@ pub record Example : Type 0 where
   pub lawful : Lawful example (image_words blank)
   pub whole : Whole blank
   pub admits : admitted example (image_words blank) blank ≡ Ok (accepted (image_words blank) (plan_of example))
-  -- the plan may have the frames of these too, and their own rules are broken
+  -- the plan may have the frames of these too, and only the image's own rules are broken
+  pub lawful_short : Lawful example (image_words short)
+  pub lawful_longer : Lawful example (image_words longer)
   pub frame_less : admitted example (image_words short) short ≡ Err FramesMissing
   pub byte_more : admitted example (image_words longer) longer ≡ Err (Surplus 8194)

@@ -28,7 +28,7 @@ to_itself = slice_set example 2 1 ++ replicate 10 0
 abbrev pub joined : ℕ → ℕ → List ℕ
 joined sender receiver = sender ∷ receiver ∷ replicate 8 0
 
--- and with a budget and a channel each way, or two out of partition 0
+-- the same plan with a budget and two channels: one each way, or both out of partition 0
 abbrev pub each_way : ℕ → ℕ → List ℕ
 each_way high low = slice_set (with_budget high low) 2 2 ++ (joined 0 1 ++ joined 1 0)
 

@@ -31,7 +31,8 @@ ChannelFits p k =
 abbrev pub StartFits : Plan → ℕ → Type 0
 StartFits p k = (partition p k).start % 4 ≡ 0
 
--- the budget is 64 to 100,000 cycles, and covers a switch without messages and that after a slot of any partition, with all messages of that partition
+-- the budget is 64 to 100,000 cycles, and covers a switch without messages and that after a slot of any partition, with the messages of all
+-- channels out of it
 abbrev pub BudgetFits : Plan → Type 0
 BudgetFits p =
     (64 ≤ p.budget) × (p.budget ≤ 100000) × (switch ≤ p.budget)
