@@ -1,7 +1,7 @@
 -- What a program does depends on no other memory than that of its root.
 use Rattle.std.proofs.Common.{◌≡◌, ℕ, ◌+◌, ◌*◌, ◌/◌, ◌%◌, ◌<◌, true, List, length, Some, None, Option, sym, refl, ap, ◌∙◌, inl, inr, arith}
 use Rattle.std.proofs.lemmas.List.{get_or-set_other, get_or-set_same}
-use Rattle.std.proofs.lemmas.Bool.{cases_Bool, cases_eq, lt-ltb}
+use Rattle.std.proofs.lemmas.Bool.{cases_eq, lt-ltb}
 use Rattle.words.specs.Frames.{lent, word, written}
 use Rattle.words.proofs.Frame.{lent_room}
 use Rattle.isa.specs.declared.register.Register.{Register}
@@ -22,11 +22,10 @@ use Rattle.tables.proofs.Truth.{honesty}
 use Rattle.hart.specs.declared.context.State.{State}
 use Rattle.hart.specs.declared.context.State.TheVariants.{Ready, Stopped}
 use Rattle.hart.specs.declared.context.Context.{Context}
-use Rattle.hart.specs.Memory.{is_aligned, load_bytes, store_bytes}
 use Rattle.hart.specs.Execution.{Doing, sets, jumps, branches, loads, stores, doing}
 use Rattle.hart.specs.Core.{Ran, executed, fetch_ran, word_ran, decoded_ran, load_ran, store_ran, stepped, stepped_by, looked_up, after_lookup}
 use Rattle.hart.specs.Laws.{SameOwn, SeesOwn}
-use Rattle.hart.proofs.Agreeing.{found_or_not, found_reaches}
+use Rattle.hart.proofs.Agreeing.{found_or_not, found_reaches, load_cases, store_cases}
 
 module _ (ws vs : List ℕ) (root : ℕ) (own : SameOwn ws vs root) where
   walks : (page : ℕ) → walked vs root page ≡ walked ws root page
@@ -63,29 +62,24 @@ module _ (ws vs : List ℕ) (root : ℕ) (own : SameOwn ws vs root) where
   module _ (t : Tables) (h : Honest t.tlb ws root) where
     load_alike : (x : Context) (width : LoadWidth) (rd : Register) (address : ℕ) → AlikeRan (load_ran x t vs root width rd address) (load_ran x t ws root width rd address)
     unfolding load_ran
-    load_alike x width rd address = elim (cases_Bool (is_aligned (load_bytes width) address)) [
-      | inl a ↦ elim (found_or_not (looked_up t ws root address Load).frame) [
-        | inl f ↦
-            let r = found_reaches t ws root h address Load f.0 f.1 in
-            rw (walks (address / 4096), a, f.1, same_reached address Load _ r)
-            (record { context = refl; tables = refl; cost = refl; words = same_words })
-        | inr e ↦ rw (walks (address / 4096), a, e) (record { context = refl; tables = refl; cost = refl; words = same_words })
-      ]
-      | inr a ↦ rw a (record { context = refl; tables = refl; cost = refl; words = same_words })
-    ]
+    load_alike x width rd address =
+        load_cases (AlikeRan (load_ran x t vs root width rd address)) x t ws root width rd address
+        (λ frame a e.
+        rw (walks (address / 4096), a, e, same_reached address Load _ (found_reaches t ws root h address Load frame e))
+        (record { context = refl; tables = refl; cost = refl; words = same_words }))
+        (λ a e. rw (walks (address / 4096), a, e) (record { context = refl; tables = refl; cost = refl; words = same_words }))
+        (λ a. rw a (record { context = refl; tables = refl; cost = refl; words = same_words }))
 
     store_alike : (x : Context) (width : StoreWidth) (address value : ℕ) → AlikeRan (store_ran x t vs root width address value) (store_ran x t ws root width address value)
     unfolding store_ran
-    store_alike x width address value = elim (cases_Bool (is_aligned (store_bytes width) address)) [
-      | inl a ↦ elim (found_or_not (looked_up t ws root address Store).frame) [
-        | inl f ↦
-            let r = found_reaches t ws root h address Store f.0 f.1 in
-            rw (walks (address / 4096), a, f.1, same_reached address Store _ r)
-            (record { context = refl; tables = refl; cost = refl; words = rw r.frame (same_written r.page (address % 4096 / 4) _ r.leaf r.maps (omega arith)) })
-        | inr e ↦ rw (walks (address / 4096), a, e) (record { context = refl; tables = refl; cost = refl; words = same_words })
-      ]
-      | inr a ↦ rw a (record { context = refl; tables = refl; cost = refl; words = same_words })
-    ]
+    store_alike x width address value =
+        store_cases (AlikeRan (store_ran x t vs root width address value)) x t ws root width address value
+        (λ frame a e.
+        let r = found_reaches t ws root h address Store frame e in
+        rw (walks (address / 4096), a, e, same_reached address Store _ r)
+        (record { context = refl; tables = refl; cost = refl; words = rw r.frame (same_written r.page (address % 4096 / 4) _ r.leaf r.maps (omega arith)) }))
+        (λ a e. rw (walks (address / 4096), a, e) (record { context = refl; tables = refl; cost = refl; words = same_words }))
+        (λ a. rw a (record { context = refl; tables = refl; cost = refl; words = same_words }))
 
     executed_alike : (x : Context) (d : Doing) → AlikeRan (executed x t vs root d) (executed x t ws root d)
     unfolding executed
