@@ -49,7 +49,7 @@ unfolding filled
 filled_length tlb page access walk = filled_by_length tlb page access (known tlb page) walk
 
 -- no state is both
-apart : (s : State) (cause : Cause) (pc : ℕ) → s ≡ Ready → s ≡ Stopped cause pc → ⊥
+pub apart : (s : State) (cause : Cause) (pc : ℕ) → s ≡ Ready → s ≡ Stopped cause pc → ⊥
 apart s cause pc ready stopped = let z : ◌≡◌ {A = ℕ} 0 1 = cc in omega arith
 
 -- what becomes of registers and counter
@@ -128,7 +128,7 @@ module _ (x : Context) (t : Tables) (ws : List ℕ) (root : ℕ) where
   lookup_walks : (address : ℕ) (access : Access) → Walks 0 1 (looked_up t ws root address access).cost
   lookup_walks address access = found_walks t.tlb (address / 4096) access (walked ws root (address / 4096))
 
-  pub lookup_most : (address : ℕ) (access : Access) → (looked_up t ws root address access).cost ≤ page_walk
+  lookup_most : (address : ℕ) (access : Access) → (looked_up t ws root address access).cost ≤ page_walk
   lookup_most address access = carried_cost t.tlb (address / 4096) access (walked ws root (address / 4096)) (looked_up t ws root address access) refl
 
   lookup_whole : (address : ℕ) (access : Access) → WholeTables t → WholeTables (after_lookup t ws root address access)

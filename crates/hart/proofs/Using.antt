@@ -1,7 +1,7 @@
 -- Which tables a step uses.
-use Rattle.std.proofs.Common.{◌≡◌, ℕ, ◌+◌, ◌/◌, ◌%◌, ◌≤◌, Bool, false, List, Some, None, Option, refl, inl, inr, arith}
+use Rattle.std.proofs.Common.{◌≡◌, ℕ, ◌+◌, ◌/◌, ◌%◌, Bool, false, List, Some, None, Option, refl, inl, inr, arith}
 use Rattle.std.proofs.lemmas.Bool.{cases_Bool, true≢false}
-use Rattle.words.specs.Costs.{instruction, page_walk}
+use Rattle.words.specs.Costs.{instruction}
 use Rattle.words.specs.Frames.{word}
 use Rattle.isa.specs.declared.register.Register.{Register}
 use Rattle.isa.specs.declared.instruction.Instruction.{Instruction}
@@ -20,13 +20,13 @@ use Rattle.hart.specs.Execution.{misses_target, offset_by}
 use Rattle.hart.specs.Core.{Ran, after_lookup, branch_tables, decoded_ran, executed, fetch_ran, load_ran, looked_up, ran, stepped, stepped_by, store_ran, word_ran}
 use Rattle.hart.specs.Steps.{UsesTables, fetched, uses_cache, uses_predictor}
 use Rattle.hart.proofs.Agreeing.{found_or_not, load_cases, store_cases}
-use Rattle.hart.proofs.Stepping.{lookup_most}
+use Rattle.hart.proofs.Stepping.{apart}
 
--- what becomes of the tables by what was decoded, and what is at most to pay for what uses none
-record Leaves (t : Tables) (most : ℕ) (o : Option Instruction) (r : Ran) : Type 0 where
+-- what becomes of the tables by what was decoded, and what is paid for what uses none
+record Leaves (t : Tables) (cost : ℕ) (o : Option Instruction) (r : Ran) : Type 0 where
   cache : uses_cache o ≡ false → r.tables.cache ≡ t.cache
   predictor : uses_predictor o ≡ false → r.tables.predictor ≡ t.predictor
-  plain : uses_cache o ≡ false → uses_predictor o ≡ false → r.cost ≤ most
+  plain : uses_cache o ≡ false → uses_predictor o ≡ false → r.cost ≡ cost
 
 module _ (x : Context) (t : Tables) (ws : List ℕ) (root : ℕ) where
   load_predictor : (width : LoadWidth) (rd : Register) (address : ℕ) → (load_ran x t ws root width rd address).tables.predictor ≡ t.predictor
@@ -40,7 +40,7 @@ module _ (x : Context) (t : Tables) (ws : List ℕ) (root : ℕ) where
 
   -- what uses no table
   none_used : (o : Option Instruction) (y : Context) → Leaves t 0 o (ran y t ws 0)
-  none_used o y = record { cache = λ _. refl; predictor = λ _. refl; plain = λ _ _. omega arith }
+  none_used o y = record { cache = λ _. refl; predictor = λ _. refl; plain = λ _ _. refl }
 
   leaves : (clock : ℕ) (o : Option Instruction) → Leaves t 0 o (decoded_ran x t ws root clock o)
   unfolding executed
@@ -69,21 +69,25 @@ module _ (x : Context) (t : Tables) (ws : List ℕ) (root : ℕ) where
   }
 
 module _ (x : Context) (t : Tables) (ws : List ℕ) (root clock : ℕ) where
-  abbrev StepLeaves : Ran → Type 0
-  StepLeaves r = Leaves t (instruction + page_walk) (decoded (fetched x t ws root)) r
-
-  fetch_leaves : StepLeaves (fetch_ran x t ws root clock)
+  fetch_leaves : Leaves t (instruction + (looked_up t ws root x.pc Fetch).cost) (decoded (fetched x t ws root)) (fetch_ran x t ws root clock)
   unfolding fetch_ran word_ran
   fetch_leaves = elim (found_or_not (looked_up t ws root x.pc Fetch).frame) [
     | inl f ↦
         let rest = leaves x (after_lookup t ws root x.pc Fetch) ws root clock (decoded (word ws f.0 (x.pc % 4096 / 4))) in
-        rw f.1 (record { cache = rest.cache; predictor = rest.predictor; plain = λ u v. omega (arith, rest.plain u v, lookup_most x t ws root x.pc Fetch) })
-    | inr e ↦ rw e (record { cache = λ _. refl; predictor = λ _. refl; plain = λ _ _. omega (arith, lookup_most x t ws root x.pc Fetch) })
+        rw f.1 (record { cache = rest.cache; predictor = rest.predictor; plain = λ u v. omega (arith, rest.plain u v) })
+    | inr e ↦ rw e (record { cache = λ _. refl; predictor = λ _. refl; plain = λ _ _. refl })
   ]
 
-  by_state : (s : State) → StepLeaves (stepped_by s x t ws root clock)
-  by_state Ready = fetch_leaves
-  by_state (Stopped cause pc) = record { cache = λ _. refl; predictor = λ _. refl; plain = λ _ _. omega arith }
+  -- the same of a step, whose cost is a ready program's
+  record By (s : State) (r : Ran) : Type 0 where
+    cache : uses_cache (decoded (fetched x t ws root)) ≡ false → r.tables.cache ≡ t.cache
+    predictor : uses_predictor (decoded (fetched x t ws root)) ≡ false → r.tables.predictor ≡ t.predictor
+    plain : s ≡ Ready → uses_cache (decoded (fetched x t ws root)) ≡ false → uses_predictor (decoded (fetched x t ws root)) ≡ false →
+        r.cost ≡ instruction + (looked_up t ws root x.pc Fetch).cost
+
+  by_state : (s : State) → By s (stepped_by s x t ws root clock)
+  by_state Ready = record { cache = fetch_leaves.cache; predictor = fetch_leaves.predictor; plain = λ _. fetch_leaves.plain }
+  by_state (Stopped cause pc) = record { cache = λ _. refl; predictor = λ _. refl; plain = λ e. absurd (apart (Stopped cause pc) cause pc e refl) }
 
 pub uses_tables : UsesTables
 unfolding stepped

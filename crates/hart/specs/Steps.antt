@@ -69,12 +69,12 @@ uses_predictor None = false
 uses_predictor (Some (Branch condition left right offset)) = true
 uses_predictor (Some other) = false
 
--- every other instruction leaves them as they are, and what uses neither costs 1, and a walk if its fetch needs one
+-- every other instruction leaves them as they are, and one that uses neither costs 1 and what the look-up of its own page did
 pub record Uses (x : Context) (t : Tables) (ws : List ℕ) (root clock : ℕ) : Type 0 where
   pub cache : uses_cache (decoded (fetched x t ws root)) ≡ false → (stepped x t ws root clock).tables.cache ≡ t.cache
   pub predictor : uses_predictor (decoded (fetched x t ws root)) ≡ false → (stepped x t ws root clock).tables.predictor ≡ t.predictor
-  pub plain : uses_cache (decoded (fetched x t ws root)) ≡ false → uses_predictor (decoded (fetched x t ws root)) ≡ false →
-      (stepped x t ws root clock).cost ≤ instruction + page_walk
+  pub plain : x.state ≡ Ready → uses_cache (decoded (fetched x t ws root)) ≡ false → uses_predictor (decoded (fetched x t ws root)) ≡ false →
+      (stepped x t ws root clock).cost ≡ instruction + (looked_up t ws root x.pc Fetch).cost
 
 abbrev pub UsesTables : Type 0
 UsesTables = (x : Context) (t : Tables) (ws : List ℕ) (root clock : ℕ) → Uses x t ws root clock
