@@ -4,7 +4,7 @@ use Rattle.std.specs.Borrow.{Bor}
 use Rattle.std.specs.List.{starts_with}
 use Rattle.std.specs.declared.alloc.Global.{Global}
 use Rattle.console.specs.declared.problem.Problem.{Problem}
-use Rattle.console.specs.declared.problem.Problem.TheVariants.{MissingArgument, SurplusArgument, UnexpectedOption, NotNumber, Unreadable, SlotsLength, NoMemory}
+use Rattle.console.specs.declared.problem.Problem.TheVariants.{CommandLine, MissingArgument, SurplusArgument, UnexpectedOption, NotNumber, Unreadable, SlotsLength, NoMemory}
 
 -- the word at a place has these bytes
 abbrev pub IsWordAt : List (String Global) → ℕ → List ℕ → Type 0
@@ -13,6 +13,12 @@ IsWordAt words at bytes = (at < length words) × HoldsAt (λ word. string_bytes 
 -- whether the first word asks the program to tell of itself
 abbrev pub AsksOfItself : List (String Global) → Bool → Type 0
 AsksOfItself words r = Decides r (IsWordAt words 0 (codes "--help") ⊎ IsWordAt words 0 (codes "--version"))
+
+-- it tells that the words cannot be read, or that no memory is left for them
+abbrev pub IsUnheard : Problem → Type 0
+IsUnheard (CommandLine e) = Unit {0}
+IsUnheard (NoMemory e) = Unit {0}
+IsUnheard _ = ⊥
 
 -- a word is an option if it begins with a hyphen
 abbrev pub is_option : List ℕ → Bool

@@ -1,15 +1,17 @@
 // The words of the command line. They are asked by their place and not taken from an iterator, which would be no plainer: the
 // first is looked at before it is known what it is, and the last only if it is an option.
 ghost use Rattle.std.specs.Prelude.{◌≡◌, is_ok, IfOk, IfErr, IsOkUnless, length, string_bytes, Decides, nat_le, nat_lt, HoldsAt};
-ghost use Rattle.console.specs.Words.{IsNoNumber, IsSurplus, IsWordAt, NamesFile, is_option};
+ghost use Rattle.console.specs.Words.{IsNoNumber, IsSurplus, IsUnheard, IsWordAt, NamesFile, is_option};
 
 use crate::problem::Problem;
 use std::env;
 
 // The words after the program's name.
-pub fn arguments(rt: &HostRuntime) -> Result<Vec<String>, Problem> {
+pub fn arguments(rt: &HostRuntime) -> Result<Vec<String>, Problem>
+    ensures { IfErr result IsUnheard }
+{
     let words = env::args(rt).map_err(Problem::CommandLine)?;
-    Ok(words.skip(1).collect(rt.alloc())?)
+    words.skip(1).collect(rt.alloc()).map_err(Problem::NoMemory)
 }
 
 // The word at a place, which the usage calls by this name.
