@@ -7,7 +7,7 @@
 Run it at the top of the repository. It works on a copy in a temporary folder: each bug becomes a must-fail edit there, and `rt must-fail` tries them.
 A bug is a changed comparison, operator, range, constant, flag, condition, name or variant, a statement that is dropped or done twice, an operand that
 is left out, or two arguments that are exchanged, in a line of a body. Bugs that do not compile are not counted. Each bug that passes is printed, and so
-is each that is refused only since a proof file no longer fits the code. The last line has the counts. With --list the bugs are printed and not tried;
+is each that is refused only because a proof file no longer fits the code. The last line has the counts. With --list the bugs are printed and not tried;
 a file of such lines, as tests/planted has, is tried with --from. No line gets a second bug before each has one.
 """
 import argparse

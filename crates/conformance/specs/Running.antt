@@ -1,19 +1,14 @@
 -- What a run of words leaves on the machine of the vectors.
-use Rattle.std.specs.Prelude.{◌≡◌, ℕ, zero, suc, List, replicate, cond, Option, Some, None, is_some}
+use Rattle.std.specs.Prelude.{◌≡◌, ℕ, List, replicate, cond, Option, Some, None, is_some}
 use Rattle.rv32ui.specs.Memory.{laid_out, put_at}
 use Rattle.isa.specs.Registers.{held, register}
 use Rattle.hart.specs.declared.context.State.{State}
 use Rattle.hart.specs.declared.context.State.TheVariants.{Ready, Stopped}
-use Rattle.hart.specs.declared.step.Core.{Core}
 use Rattle.hart.specs.Causes.{cause_number}
-use Rattle.hart.specs.Core.{first_core, later, step_of}
+use Rattle.hart.specs.Core.{first_core}
 use Rattle.hart.specs.Execution.{is_ready}
+use Rattle.hart.specs.Moments.{Moment, after}
 use Rattle.conformance.specs.declared.machine.Machine.{Machine}
-
--- a core with the memory that it is lent
-pub record Moment : Type 0 where
-  pub core : Core
-  pub words : List ℕ
 
 -- of a machine all but what its decoder remembers, which makes no difference to a step
 abbrev pub moment_of : Machine → Moment
@@ -26,15 +21,6 @@ at_first = record { core = first_core 0 0x10000; words = laid_out (replicate 512
 -- the counter elsewhere
 abbrev pub at_counter : ℕ → Moment → Moment
 at_counter pc m = record { core = record m.core { context = record m.core.context { pc = pc } }; words = m.words }
-
--- one instruction
-abbrev pub next : Moment → Moment
-next m = record { core = later m.core (step_of m.core m.words); words = (step_of m.core m.words).words }
-
--- so many instructions
-unfoldable pub after : ℕ → Moment → Moment
-after zero m = m
-after (suc n) m = next (after n m)
 
 -- the words in the frame of the code, from its start on
 abbrev pub with_code : List ℕ → Moment → Moment
@@ -54,6 +40,6 @@ abbrev pub value_in : ℕ → Moment → Option ℕ
 value_in r m = cond (is_ready m.core.context.state) (Some (held m.core.context.registers (register r))) None
 
 -- so many instructions from there, and an answer if and only if the program is then ready
-pub record Ran (code : List ℕ) (instructions : ℕ) (before now : Machine) (answer : Option Unit) : Type 0 where
+pub record RunsWords (code : List ℕ) (instructions : ℕ) (before now : Machine) (answer : Option Unit) : Type 0 where
   pub moment : moment_of now ≡ after instructions (with_code code (moment_of before))
   pub ready : is_some answer ≡ is_ready now.core.context.state

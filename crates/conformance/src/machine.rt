@@ -2,7 +2,8 @@
 ghost use Rattle.std.specs.Prelude.{◌≡◌, length};
 ghost use Rattle.isa.specs.Registers.{held, register, written};
 ghost use Rattle.hart.specs.Core.{first_core, step_of};
-ghost use Rattle.conformance.specs.Running.{Ran, after, at_counter, at_first, cause_of, moment_of, next, value_in, with_code, with_data};
+ghost use Rattle.hart.specs.Moments.{after, next};
+ghost use Rattle.conformance.specs.Running.{RunsWords, at_counter, at_first, cause_of, moment_of, value_in, with_code, with_data};
 
 use hart::context::State;
 use hart::step::Core;
@@ -72,7 +73,7 @@ impl Machine {
 
     // Puts the words at the start and runs so many instructions; none where the program stopped.
     pub fn run_for(&mut self, words: &[u32], instructions: usize) -> Option<()>
-        ensures { Ran words.now instructions self.old self.new result }
+        ensures { RunsWords words.now instructions self.old self.new result }
     {
         self.put_code(words);
         for _turn in 0..instructions {
@@ -114,7 +115,7 @@ impl Runner for Machine {
     ghost counter = { λ m. m.core.context.pc };
 
     // what the decoder remembers after a run is left open
-    ghost runs = { λ before code answer now. Ran code (length code) before now answer };
+    ghost runs = { λ before code answer now. RunsWords code (length code) before now answer };
 
     // Registers, counter, tables and clock as at first.
     fn restart(&mut self) {

@@ -22,9 +22,7 @@ const PROGRAM: Program = Program {
     name: "conformance",
     usage: "conformance",
     about: "Runs the vectors of the public RISC-V test suite (rv32ui) and worked cases on the core, and prints how many there are of each.
-
-  --help     prints this
-  --version  prints the version",
+",
 };
 
 // Runs the rows of an operation.

@@ -16,7 +16,7 @@ IsNamed words at (Ok (Number text)) = IsWordAt words at (codes "--slots") × IsW
 IsNamed words at (Err (MissingArgument name)) =
     ((length words ≤ at) × (name.now ≡ codes "SLOTS")) ⊎ ((length words ≡ at + 1) × IsWordAt words at (codes "--slots") × (name.now ≡ codes "N"))
 IsNamed words at (Err (UnexpectedOption text)) = IsWordAt words at (string_bytes text) × (string_bytes text ≢ codes "--slots") × (is_option (string_bytes text) ≡ true)
-IsNamed words at (Err (NoMemory e)) = IsOptionAt words at
+IsNamed words at (Err (NoMemory e)) = IsOptionAt words at × (IsWordAt words at (codes "--slots") → ⊥)
 IsNamed words at (Err _) = ⊥
 
 -- the words that name it

@@ -12,6 +12,11 @@ use thiserror::Error;
 
 const VERSION: &str = "0.1.0";
 
+// What every program takes, for the end of its list of arguments.
+const OPTIONS: &str = "
+  --help       prints this
+  --version    prints the version";
+
 // The name of a program, how it is called, and what is told of it and its arguments.
 #[derive(Clone, Copy)]
 pub struct Program {
@@ -45,6 +50,7 @@ pub enum Problem {
     CommandLine(io::Error),
     #[error("cannot write to the standard output: {0}")]
     Output(#[from] io::Error),
+    // the program did its job and found a fault: `conformance`, where a vector fails
     #[error("{0}")]
     Failed(&'static str),
 }
@@ -67,7 +73,7 @@ impl Program {
         ensures { IfOk result (AsksOfItself words.now) }
     {
         if is_word(words, 0, "--help") {
-            println!(rt; "usage: {}\n\n{}", self.usage, self.about)?;
+            println!(rt; "usage: {}\n\n{}{OPTIONS}", self.usage, self.about)?;
             return Ok(true);
         }
         if is_word(words, 0, "--version") {

@@ -4,7 +4,8 @@ use Rattle.paging.specs.Entries.{flag}
 use Rattle.paging.specs.Walks.{walked}
 use Rattle.tables.specs.Tlb.{found, filled}
 use Rattle.hart.specs.Core.{executed, fetch_ran, word_ran, load_ran, store_ran, stepped}
-use Rattle.hart.specs.Clocked.{Clocked, after}
+use Rattle.hart.specs.Clocked.{Clocked}
+use Rattle.hart.specs.Moments.{after}
 
 pub worked : Clocked
 unfolding flag walked found filled executed fetch_ran word_ran load_ran store_ran stepped after

@@ -1,26 +1,10 @@
--- What instructions cost: a program that reads the clock around its loads, branches alone, and the dearest load.
-use Rattle.std.specs.Prelude.{◌≡◌, ℕ, zero, suc, ◌+◌, List}
+-- What instructions cost: a program that reads the clock around its loads, branches alone, a load that evicts what was stored, and the dearest load.
+use Rattle.std.specs.Prelude.{◌≡◌, ℕ, List}
 use Rattle.words.specs.Frames.{written}
 use Rattle.isa.specs.Registers.{held, register}
-use Rattle.tables.specs.First.{first_tables}
-use Rattle.hart.specs.Execution.{fresh}
+use Rattle.hart.specs.Core.{first_core}
 use Rattle.hart.specs.Mapped.{mapped, mapped_in}
-use Rattle.hart.specs.Core.{Ran, ran, stepped}
-
--- a program that ran for some steps, and the clock
-pub record Moment : Type 0 where
-  pub at : Ran
-  pub clock : ℕ
-
-abbrev pub next_moment : ℕ → Moment → Moment
-next_moment root m = record {
-  at = stepped m.at.context m.at.tables m.at.words root m.clock;
-  clock = m.clock + (stepped m.at.context m.at.tables m.at.words root m.clock).cost;
-}
-
-unfoldable pub after : ℕ → ℕ → Moment → Moment
-after root zero m = m
-after root (suc n) m = next_moment root (after root n m)
+use Rattle.hart.specs.Moments.{Moment, after, cost_at}
 
 -- LUI x2, 17; rdcycle x5; LW x6, 0(x2); a fourth word; rdcycle x8
 abbrev pub program : ℕ → List ℕ
@@ -29,17 +13,17 @@ program fourth =
 
 -- a fresh program in page 16
 abbrev pub begin : List ℕ → Moment
-begin words = record { at = ran (fresh 0x10000) first_tables words 0; clock = 0 }
+begin words = record { core = first_core 0 0x10000; words = words }
 
 abbrev pub start : ℕ → Moment
 start fourth = begin (program fourth)
 
 abbrev pub register_after : ℕ → ℕ → ℕ → ℕ
-register_after fourth n r = held (after 0 n (start fourth)).at.context.registers (register r)
+register_after fourth n r = held (after n (start fourth)).core.context.registers (register r)
 
 -- a program of one word, after some steps
 abbrev pub alone : ℕ → ℕ → Moment
-alone word n = after 0 n (begin (written mapped 2 0 word))
+alone word n = after n (begin (written mapped 2 0 word))
 
 -- the same memory with pages 18 and 19, which are frame 2 as well: LUI x2, 17; LUI x3, 19; SW x0, 0(x2);
 -- a JAL that goes on at the fifth word, by page 18; LW x6, 0(x3)
@@ -55,9 +39,9 @@ evicting =
     let words = written (mapped_in 5120) 1 18 0x10D7 in
     written (written (written (written (written words 2 0 0x00011137) 2 1 0x00012023) 2 2 0x000121B7) 2 3 0x0001A303) 2 4 0x0001A303
 
--- what the n-th instruction of that program costs
+-- what an instruction of that program costs, with so many before it
 abbrev pub evicting_cost : ℕ → ℕ
-evicting_cost n = (after 0 n (begin evicting)).at.cost
+evicting_cost n = cost_at (after n (begin evicting))
 
 -- the first instruction costs 31, the first load 51, and a second load of the same line 1; one of the next line 21.
 -- A counter begins at 1, which predicts not taken: BEQ x0, x0, 8, which is taken, costs 3 besides, and BNE x0, x0, 8 nothing.
@@ -66,17 +50,17 @@ evicting_cost n = (after 0 n (begin evicting)).at.cost
 -- The most that an instruction can cost is met: a load whose code page, data page and line are missing, over a dirty line
 pub record Clocked : Type 0 where
   pub first_read : register_after 0x00012383 2 5 ≡ 31
-  pub load_ends : (after 0 3 (start 0x00012383)).clock ≡ 83
+  pub load_ends : (after 3 (start 0x00012383)).core.clock ≡ 83
   pub same_line : register_after 0x00012383 5 8 ≡ 84
   pub next_line : register_after 0x04012383 5 8 ≡ 104
-  pub taken : (alone 0x00000463 1).clock ≡ 34
-  pub goes_to : (alone 0x00000463 1).at.context.pc ≡ 0x10008
-  pub not_taken : (alone 0x00001463 1).clock ≡ 31
-  pub falls_through : (alone 0x00001463 1).at.context.pc ≡ 0x10004
-  pub rounds : (alone 0x00000063 4).clock ≡ 37
-  pub stores : evicting_cost 2 ≡ 51
-  pub evicts : evicting_cost 4 ≡ 61
-  pub again : evicting_cost 5 ≡ 1
-  pub evicted_in_all : (after 0 5 (begin evicting)).clock ≡ 145
-  pub most : (after 0 5 (begin dear)).at.cost ≡ 91
-  pub in_all : (after 0 5 (begin dear)).clock ≡ 175
+  pub taken : (alone 0x00000463 1).core.clock ≡ 34
+  pub goes_to : (alone 0x00000463 1).core.context.pc ≡ 0x10008
+  pub not_taken : (alone 0x00001463 1).core.clock ≡ 31
+  pub falls_through : (alone 0x00001463 1).core.context.pc ≡ 0x10004
+  pub rounds : (alone 0x00000063 4).core.clock ≡ 37
+  pub stores : evicting_cost 1 ≡ 51
+  pub evicts : evicting_cost 3 ≡ 61
+  pub again : evicting_cost 4 ≡ 1
+  pub evicted_in_all : (after 5 (begin evicting)).core.clock ≡ 145
+  pub most : cost_at (after 4 (begin dear)) ≡ 91
+  pub in_all : (after 5 (begin dear)).core.clock ≡ 175

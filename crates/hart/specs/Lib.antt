@@ -8,6 +8,7 @@ pub mod Architecture
 pub mod Laws
 pub mod Steps
 pub mod Mapped
+pub mod Moments
 pub mod Clocked
 pub mod Meant
 pub mod Example

@@ -34,18 +34,22 @@ stores_in code one two = word (does_word code one two).words 3 0
 abbrev pub state_of : ℕ → ℕ → ℕ → State
 state_of code one two = (does_word code one two).context.state
 
--- LB x3, 1(x1) gives F2 with its sign and LB x3, 2(x1) gives 70; LBU x3, 3(x1) gives 80; LH x3, 2(x1) gives 8070 with its sign, and LHU x3, 0(x1) gives F281
+-- LB x3, 1(x1) gives F2 with its sign and LB x3, 2(x1) gives 70; LBU x3, 3(x1) gives 80; LH x3, 2(x1) gives 8070 with its sign, LHU x3, 0(x1) gives F281
+-- and LHU x3, 2(x1) 8070; LW x3, 0(x1) gives all four
 pub record LoadsMeant : Type 0 where
   pub lb : leaves_in 3 0x00108183 0x11000 0 ≡ 0xFFFFFFF2
   pub lb_positive : leaves_in 3 0x00208183 0x11000 0 ≡ 0x70
   pub lbu : leaves_in 3 0x0030C183 0x11000 0 ≡ 0x80
   pub lh : leaves_in 3 0x00209183 0x11000 0 ≡ 0xFFFF8070
   pub lhu : leaves_in 3 0x0000D183 0x11000 0 ≡ 0xF281
+  pub lhu_high : leaves_in 3 0x0020D183 0x11000 0 ≡ 0x8070
+  pub lw : leaves_in 3 0x0000A183 0x11000 0 ≡ 0x8070F281
 
--- SB x2, 1(x1) and SH x2, 2(x1), of 12345678
+-- SB x2, 1(x1), SH x2, 2(x1) and SW x2, 0(x1), of 12345678
 pub record StoresMeant : Type 0 where
   pub sb : stores_in 0x002080A3 0x11000 0x12345678 ≡ 0x80707881
   pub sh : stores_in 0x00209123 0x11000 0x12345678 ≡ 0x5678F281
+  pub sw : stores_in 0x0020A023 0x11000 0x12345678 ≡ 0x12345678
 
 -- JAL x3, 8 leaves the address after it in x3 and goes on 8 bytes from its own; JALR x1, 5(x1) reads x1 before it sets it, and its odd sum loses 1;
 -- BLT x1, x2, -8 is taken where x1 is -1 and x2 is 1, and counts from its own address
@@ -67,8 +71,9 @@ pub record OperationsMeant : Type 0 where
   pub rdtime : leaves_in 3 0xC01021F3 0 0 ≡ 7
   pub rdcycleh : leaves_in 3 0xC80021F3 0 0 ≡ 5
 
--- a word of zeros; JAL x3, 2, which leaves x3 and the counter as they were; BEQ x0, x0, 2, while BNE x0, x0, 2 goes on; a counter in page 17, which has no X; LH x3, 1(x1); LW x3, 0(x1) in page 18, which is not mapped and leaves x1 as it was;
--- SW x2, 2(x1); SW x2, 0(x1) in page 16, which has no W
+-- a word of zeros; JAL x3, 2, which leaves x3 and the counter as they were; BEQ x0, x0, 2, while BNE x0, x0, 2 goes on; a counter in page 17, which has no X; LH x3, 1(x1), LHU x3, 1(x1) and
+-- LW x3, 2(x1), while LW x3, 4(x1) goes on; LW x1, 0(x1) in page 18, which is not mapped: x1 stays as it was; SH x2, 1(x1) and SW x2, 2(x1), while SW x2, 4(x1) goes on;
+-- SW x2, 0(x1) in page 16, which has no W
 pub record StopsMeant : Type 0 where
   pub illegal : state_of 0 0 0 ≡ Stopped IllegalInstruction 0x10000
   pub fetch_misaligned : state_of 0x002001EF 0 0 ≡ Stopped FetchMisaligned 0x10000
@@ -78,9 +83,14 @@ pub record StopsMeant : Type 0 where
   pub not_taken : goes_to 0x00001163 0 0 ≡ 0x10004
   pub fetch_fault : (architecture (program_at 0x11000 0 0) (with_code 0) 0 0).context.state ≡ Stopped FetchFault 0x11000
   pub load_misaligned : state_of 0x00109183 0x11000 0 ≡ Stopped LoadMisaligned 0x10000
-  pub load_fault : state_of 0x0000A183 0x12000 0 ≡ Stopped LoadFault 0x10000
-  pub keeps : leaves_in 1 0x0000A183 0x12000 0 ≡ 0x12000
-  pub store_misaligned : state_of 0x0020A123 0x11000 0 ≡ Stopped StoreMisaligned 0x10000
+  pub lhu_misaligned : state_of 0x0010D183 0x11000 0 ≡ Stopped LoadMisaligned 0x10000
+  pub lw_misaligned : state_of 0x0020A183 0x11000 0 ≡ Stopped LoadMisaligned 0x10000
+  pub lw_at_four : state_of 0x0040A183 0x11000 0 ≡ Ready
+  pub load_fault : state_of 0x0000A083 0x12000 0 ≡ Stopped LoadFault 0x10000
+  pub keeps : leaves_in 1 0x0000A083 0x12000 0 ≡ 0x12000
+  pub sh_misaligned : state_of 0x002090A3 0x11000 0 ≡ Stopped StoreMisaligned 0x10000
+  pub sw_misaligned : state_of 0x0020A123 0x11000 0 ≡ Stopped StoreMisaligned 0x10000
+  pub sw_at_four : state_of 0x0020A223 0x11000 0 ≡ Ready
   pub store_fault : state_of 0x0020A023 0x10000 0 ≡ Stopped StoreFault 0x10000
 
 pub record Meant : Type 0 where

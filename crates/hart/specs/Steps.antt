@@ -20,7 +20,7 @@ use Rattle.hart.specs.declared.context.Context.{Context}
 use Rattle.hart.specs.Execution.{stopped}
 use Rattle.hart.specs.Core.{Ran, looked_up, ran, stepped}
 
--- a program stops where it is: registers, counter, words, cache and predictor are as they were, and what it cost are the walks, two at most
+-- a program stops where it is: registers, counter, words, cache and predictor are as they were, and it cost the instruction and at most two walks
 pub record Stops (x : Context) (t : Tables) (ws : List ℕ) (r : Ran) : Type 0 where
   pub cause : Cause
   pub context : r.context ≡ stopped x cause

@@ -44,7 +44,7 @@ impl Stepper {
         Stepper { core, window: None }
     }
 
-    // One instruction, to the cycle as `Core::step` runs it.
+    // Runs one instruction, and answers the cycles that it took, by which the core's clock moves on.
     pub fn step(&mut self, words: &mut [u32], decoder: &mut Decoder) -> u32
         ensures cost { result ≡ (step_of self.old.core words.old).cost }
         ensures least { instruction ≤ result }

@@ -11,9 +11,7 @@ const PROGRAM: Program = Program {
     usage: "check PLAN IMAGE",
     about: "Tells whether a plan with its memory keeps every rule: prints 'accepted', or the first rule that is broken, by its number, and a place.
 
-  PLAN, IMAGE  the files with the plan and the memory, in the formats of docs/MACHINE.md
-  --help       prints this
-  --version    prints the version",
+  PLAN, IMAGE  the files with the plan and the memory, in the formats of docs/MACHINE.md",
 };
 
 fn main(rt: HostRuntime) -> ExitCode {

@@ -17,15 +17,12 @@ const PROGRAM: Program = Program {
     name: "run",
     usage: "run PLAN IMAGE SLOTS [--last], or run PLAN IMAGE --slots N [--last]",
     about: "Runs the programs of a plan, slot by slot, and prints a line for each slot.
+A plan or an image that breaks a rule is refused, with the rule's number and a place.
 
   PLAN, IMAGE  the files with the plan and the memory, in the formats of docs/MACHINE.md
   SLOTS        a file of four bytes, low byte first, with the number of slots
   --slots N    the number of slots itself
-  --last       prints only the last slot's line
-  --help       prints this
-  --version    prints the version
-
-A plan or an image that breaks a rule is refused, with the rule's number and a place.",
+  --last       prints only the last slot's line",
 };
 
 fn main(rt: HostRuntime) -> ExitCode {

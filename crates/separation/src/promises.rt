@@ -28,7 +28,8 @@ pub fn execution()
     ensures { Execution }
 {}
 
-// At all times of a run every entry of the TLB is what a walk would answer.
+// At all times of a slot every TLB entry is what a walk would answer, every page leads to a frame that the tables named when the
+// slot began, and no word changed but in such frames.
 pub fn translation()
     ensures { TrueTranslation }
 {}

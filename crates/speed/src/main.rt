@@ -14,9 +14,7 @@ const PROGRAM: Program = Program {
     usage: "speed N",
     about: "Runs a loop of N instructions on one core and prints the cycles that it took there; `time` tells how long it takes here.
 
-  N          how many instructions
-  --help     prints this
-  --version  prints the version",
+  N            how many instructions",
 };
 
 // Goes around page 17 and adds to its words.

@@ -10,7 +10,7 @@ use Rattle.paging.specs.Accesses.{permitted}
 use Rattle.tables.specs.declared.tlb.Tlb.{Tlb}
 use Rattle.tables.specs.declared.tlb.TlbEntry.{TlbEntry}
 use Rattle.tables.specs.Tlb.{empty_tlb, entry_of, filled, filled_by, granted, known, leaf_for, put}
-use Rattle.tables.specs.Pages.{Granted, GrantedTo, Kept, LeavesPage, PageUse, looked_up, tlb_after}
+use Rattle.tables.specs.Pages.{Granted, GrantedTo, Kept, LeavesPage, PageUse, page_used, tlb_after}
 use Rattle.tables.specs.Laws.{RemembersPages}
 use Rattle.tables.proofs.Rows.{told}
 use Rattle.tables.proofs.Truth.{known_put, look_ups}
@@ -70,29 +70,29 @@ module _ (tlb : Tlb) (page : ℕ) (access : Access) where
 
 module _ (page : ℕ) where
   -- one look-up
-  each : (tlb : Tlb) (u : PageUse) → WholeTlb tlb → Decides (is_known page (looked_up tlb u)) (GrantedTo page u ⊎ ((is_known page tlb ≡ true) × LeavesPage page u))
+  each : (tlb : Tlb) (u : PageUse) → WholeTlb tlb → Decides (is_known page (page_used tlb u)) (GrantedTo page u ⊎ ((is_known page tlb ≡ true) × LeavesPage page u))
   unfolding filled
   each tlb u whole = elim (grants u) [
     | inr none ↦
-        let same : looked_up tlb u ≡ tlb = refused tlb u.page u.access (known tlb u.page) u.walk none in
+        let same : page_used tlb u ≡ tlb = refused tlb u.page u.access (known tlb u.page) u.walk none in
         let not_granted : Granted u → ⊥ = λ g. absurd (both_ways (is_some (granted u.access u.walk)) (ap is_some none) (ap is_some (granted_walk u g))) in (
           (λ h. inr (sym (ap (is_known page) same) ∙ h, λ k g. not_granted g)),
           λ t. elim t [ inl g ↦ absurd (not_granted g.1) | inr p ↦ ap (is_known page) same ∙ p.0 ],
         )
     | inl g ↦
-        let there : is_known u.page (looked_up tlb u) ≡ true = known_filled tlb u.page u.access (known tlb u.page) u.walk g.0 refl (granted_walk u g) whole in
+        let there : is_known u.page (page_used tlb u) ≡ true = known_filled tlb u.page u.access (known tlb u.page) u.walk g.0 refl (granted_walk u g) whole in
         elim (cases_eq u.page page) [
-          | inl e ↦ ((λ h. inl (e, g)), λ t. subst (λ (p : ℕ). is_known p (looked_up tlb u) ≡ true) e there)
+          | inl e ↦ ((λ h. inl (e, g)), λ t. subst (λ (p : ℕ). is_known p (page_used tlb u) ≡ true) e there)
           | inr ne ↦ elim (cases_eq (entry_of page) (entry_of u.page)) [
             | inl place ↦
-                let gone : is_known page (looked_up tlb u) ≡ false =
-                ap (λ at. is_some (leaf_for page (get_or (looked_up tlb u).entries at None))) place
-                ∙ one_page (get_or (looked_up tlb u).entries (entry_of u.page) None) u.page page there ne in (
-                  (λ h. absurd (both_ways (is_known page (looked_up tlb u)) gone h)),
+                let gone : is_known page (page_used tlb u) ≡ false =
+                ap (λ at. is_some (leaf_for page (get_or (page_used tlb u).entries at None))) place
+                ∙ one_page (get_or (page_used tlb u).entries (entry_of u.page) None) u.page page there ne in (
+                  (λ h. absurd (both_ways (is_known page (page_used tlb u)) gone h)),
                   λ t. absurd (elim t [ inl o ↦ ne o.0 | inr p ↦ p.1 (sym place, ne) g ]),
                 )
             | inr away ↦
-                let now : is_known page (looked_up tlb u) ≡ is_known page tlb = ap is_some (filled_away tlb u.page u.access (known tlb u.page) u.walk page away) in (
+                let now : is_known page (page_used tlb u) ≡ is_known page tlb = ap is_some (filled_away tlb u.page u.access (known tlb u.page) u.walk page away) in (
                   (λ h. inr (sym now ∙ h, λ k. absurd (away (sym k.0)))),
                   λ t. elim t [ inl o ↦ absurd (ne o.0) | inr p ↦ now ∙ p.0 ],
                 )
@@ -103,14 +103,14 @@ module _ (page : ℕ) where
   nothing_known : is_known page empty_tlb ≡ false
   nothing_known = let none : Option TlbEntry = None in ap (λ o. is_some (leaf_for page o)) (get_or-replicate 16 (entry_of page) none none (mod_below page 16 (omega arith)))
 
-  whole_looked_up : (tlb : Tlb) (u : PageUse) → WholeTlb tlb → WholeTlb (looked_up tlb u)
+  whole_used : (tlb : Tlb) (u : PageUse) → WholeTlb tlb → WholeTlb (page_used tlb u)
   unfolding filled
-  whole_looked_up tlb u = whole_filled tlb u.page u.access (known tlb u.page) u.walk
+  whole_used tlb u = whole_filled tlb u.page u.access (known tlb u.page) u.walk
 
   kept : (row : List PageUse) → Decides (is_known page (tlb_after empty_tlb row)) (Kept page row)
   unfolding tlb_after
-  kept = told (GrantedTo page) (LeavesPage page) Tlb WholeTlb looked_up tlb_after (is_known page)
-      whole_looked_up (λ tlb. refl) (λ tlb u row. refl) each empty_tlb (let none : Option TlbEntry = None in length-replicate 16 none) nothing_known
+  kept = told (GrantedTo page) (LeavesPage page) Tlb WholeTlb page_used tlb_after (is_known page)
+      whole_used (λ tlb. refl) (λ tlb u row. refl) each empty_tlb (let none : Option TlbEntry = None in length-replicate 16 none) nothing_known
 
 pub remembers_pages : RemembersPages
 remembers_pages row =

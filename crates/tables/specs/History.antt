@@ -1,4 +1,4 @@
--- What a row of loads and stores alone tells, with no cache in it.
+-- What a row of uses alone tells: that something came and nothing ended it since; and so of loads and stores, with no cache in it.
 use Rattle.std.specs.Prelude.{◌≡◌, ℕ, ◌+◌, true, List, ◌∷◌, ◌++◌, ◌≢◌}
 use Rattle.std.specs.List.{AllByRecursion}
 use Rattle.words.specs.Costs.{miss, write_back}

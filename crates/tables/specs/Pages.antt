@@ -14,13 +14,13 @@ pub record PageUse : Type 0 where
   pub walk : Option Leaf
 
 -- the TLB after one look-up
-abbrev pub looked_up : Tlb → PageUse → Tlb
-looked_up tlb u = filled tlb u.page u.access u.walk
+abbrev pub page_used : Tlb → PageUse → Tlb
+page_used tlb u = filled tlb u.page u.access u.walk
 
 -- and after a row of them
 unfoldable pub tlb_after : Tlb → List PageUse → Tlb
 tlb_after tlb [] = tlb
-tlb_after tlb (u ∷ row) = tlb_after (looked_up tlb u) row
+tlb_after tlb (u ∷ row) = tlb_after (page_used tlb u) row
 
 -- the walk ends in a leaf that permits the access
 abbrev pub Granted : PageUse → Type 0

@@ -19,7 +19,7 @@ use Rattle.witness.proofs.Paired.{pairs}
 
 pub first_slots : FirstSlots
 unfolding any count first most flag walked found filled plan_of rows behind end_frame ends_or_none looked_up executed fetch_ran load_ran stepped store_ran word_ran until after_slot after_slots inside_after slot_ran carried delivered memory
-first_slots = record { early = refl; late = refl; next_begins = refl; sent = refl; received = refl; reads_on = refl; then_begins = refl; keeps_early = refl; keeps_late = refl; at_last_begins = refl }
+first_slots = record { early = refl; late = refl; next_begins = refl; sent = refl; received = refl; reads_on = refl; then_begins = refl; keeps_early = refl; keeps_late = refl; fourth_begins = refl }
 
 -- the two memories have the same first program, and no data
 same : Pair codes broken

@@ -1,4 +1,4 @@
--- The lines that are printed of those slots, worked out by hand from the programs and the costs.
+-- The lines printed of the first slots of two programs, worked out by hand from the programs and the costs.
 use Rattle.std.specs.Prelude.{◌≡◌, ℕ, List, codes, Some, Option, option_map}
 use Rattle.plan.specs.Format.{plan_of}
 use Rattle.kernel.specs.Machine.{System}

@@ -1,4 +1,4 @@
--- Two programs in that memory, and their first slots: what they read from the clock, and what the first sends to the second.
+-- Two programs in the memory of `sample`, and their first slots: what they read from the clock, and what the first sends to the second.
 use Rattle.std.specs.Prelude.{◌≡◌, ℕ, cond, List, [], ◌∷◌, ◌==◌, slice_index}
 use Rattle.words.specs.Frames.{word}
 use Rattle.isa.specs.Registers.{held, register}
@@ -41,7 +41,7 @@ pub record FirstSlots : Type 0 where
   pub then_begins : (after 2).machine.clock ≡ 3836
   pub keeps_early : register_after 3 0 5 ≡ 31
   pub keeps_late : register_after 3 0 8 ≡ 84
-  pub at_last_begins : (after 3).machine.clock ≡ 5790
+  pub fourth_begins : (after 3).machine.clock ≡ 5790
 
 -- in the other layout, with the same first program and a word in place of the second program that is no instruction
 abbrev pub broken : ℕ → ℕ → ℕ

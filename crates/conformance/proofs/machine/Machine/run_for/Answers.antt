@@ -1,6 +1,7 @@
 -- What is left to show of `run_for`.
 use Rattle.std.proofs.Common.{refl, ap, sym, ◌∙◌, add-one}
-use Rattle.conformance.specs.Running.{after, moment_of, next}
+use Rattle.hart.specs.Moments.{after, next}
+use Rattle.conformance.specs.Running.{moment_of}
 use Rattle.conformance.proofs.machine.Machine.run_for.Goals as goal
 
 pub loop-turn-init : goal.loop-turn-init

@@ -1,6 +1,7 @@
 -- What the loop of `run_for` keeps.
 use Rattle.std.proofs.Common.{◌≡◌}
-use Rattle.conformance.specs.Running.{after, moment_of}
+use Rattle.hart.specs.Moments.{after}
+use Rattle.conformance.specs.Running.{moment_of}
 use Rattle.conformance.proofs.machine.Machine.run_for.Given as goal
 
 abbrev pub invariant-loop-turn : goal.invariant-loop-turn
