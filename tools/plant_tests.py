@@ -25,7 +25,7 @@ NOT_COMPILED, REFUSED, FOUND, PASSED = "did not compile", "refused by the prover
 
 
 def output_of(words, folder):
-    run = subprocess.run(words, cwd=folder, stdin=subprocess.DEVNULL, stdout=subprocess.PIPE, stderr=subprocess.STDOUT, timeout=600)
+    run = subprocess.run(words, cwd=folder, stdin=subprocess.DEVNULL, stdout=subprocess.PIPE, stderr=subprocess.STDOUT, timeout=200)
     return run.returncode, run.stdout.decode(errors="replace")
 
 
@@ -34,7 +34,7 @@ def prints_as_expected(copy, program):
     folder = copy / "crates" / program
     words = (folder / "args").read_text().split("\n") if (folder / "args").exists() else []
     data = folder / "data" if (folder / "data").exists() else folder
-    run = subprocess.run([folder / "out" / program, *filter(None, words)], cwd=data, stdout=subprocess.PIPE, timeout=600)
+    run = subprocess.run([folder / "out" / program, *filter(None, words)], cwd=data, stdout=subprocess.PIPE, stderr=subprocess.DEVNULL, timeout=200)
     return run.stdout.decode(errors="replace") == (folder / "stdout").read_text()
 
 
