@@ -7,7 +7,7 @@ use paging::walk::MOST_FRAMES;
 use plan::refusal::Refusal;
 use words::frames::is_lent;
 
-#[derive(Clone, Copy, PartialEq, Eq, Debug)]
+#[derive(Clone, Copy)]
 pub enum Fault {
     Broken,
     NotLent,

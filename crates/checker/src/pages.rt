@@ -17,7 +17,7 @@ use std::array;
 use words::frames::read;
 
 // The frames behind the two pages of a channel.
-#[derive(Clone, Copy, PartialEq, Eq, Debug, Default)]
+#[derive(Clone, Copy, Default)]
 pub struct Ends {
     pub sender: u32,
     pub receiver: u32,

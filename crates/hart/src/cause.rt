@@ -4,7 +4,7 @@ ghost use Rattle.hart.specs.Causes.{cause_number, fault_cause};
 
 use paging::access::Access;
 
-#[derive(Clone, Copy, PartialEq, Eq, Debug)]
+#[derive(Clone, Copy)]
 pub enum Cause {
     IllegalInstruction,
     FetchMisaligned,

@@ -6,7 +6,7 @@ use crate::cause::Cause;
 use isa::register::{Register, Registers};
 
 // Whether a program goes on, or why and where it stopped.
-#[derive(Clone, Copy, PartialEq, Eq, Debug)]
+#[derive(Clone, Copy)]
 pub enum State {
     Ready,
     Stopped { cause: Cause, pc: u32 },

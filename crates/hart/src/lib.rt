@@ -8,5 +8,3 @@ pub mod laws;
 pub mod memory;
 pub mod step;
 pub mod stepper;
-#[cfg(test)]
-mod tests;

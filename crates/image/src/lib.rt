@@ -72,6 +72,3 @@ pub fn laws()
     ensures tells_all { TellsAll }
     ensures count_tells { CountTells }
 {}
-
-#[cfg(test)]
-mod tests;

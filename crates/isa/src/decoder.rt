@@ -7,7 +7,7 @@ use crate::instruction::Instruction;
 const ENTRIES: usize = 1024;
 
 // A word, and what it decodes to.
-#[derive(Clone, Copy, PartialEq, Eq, Debug)]
+#[derive(Clone, Copy)]
 struct Known {
     word: u32,
     instruction: Option<Instruction>,
@@ -15,7 +15,7 @@ struct Known {
 }
 
 // Remembers words and what they decode to.
-#[derive(Clone, Copy, PartialEq, Eq, Debug)]
+#[derive(Clone, Copy)]
 pub struct Decoder {
     known: [Known; ENTRIES],
 }

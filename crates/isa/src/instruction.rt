@@ -2,7 +2,7 @@
 use crate::register::Register;
 
 // What the ALU computes from two words.
-#[derive(Clone, Copy, PartialEq, Eq, Debug)]
+#[derive(Clone, Copy)]
 pub enum Operation {
     Add,
     Sub,
@@ -17,7 +17,7 @@ pub enum Operation {
 }
 
 // When a branch is taken.
-#[derive(Clone, Copy, PartialEq, Eq, Debug)]
+#[derive(Clone, Copy)]
 pub enum Condition {
     Equal,
     NotEqual,
@@ -27,7 +27,7 @@ pub enum Condition {
     GreaterEqualUnsigned,
 }
 
-#[derive(Clone, Copy, PartialEq, Eq, Debug)]
+#[derive(Clone, Copy)]
 pub enum LoadWidth {
     Byte,
     Half,
@@ -36,7 +36,7 @@ pub enum LoadWidth {
     HalfUnsigned,
 }
 
-#[derive(Clone, Copy, PartialEq, Eq, Debug)]
+#[derive(Clone, Copy)]
 pub enum StoreWidth {
     Byte,
     Half,
@@ -44,14 +44,14 @@ pub enum StoreWidth {
 }
 
 // The counters that a program may read.
-#[derive(Clone, Copy, PartialEq, Eq, Debug)]
+#[derive(Clone, Copy)]
 pub enum Counter {
     Cycle,
     Time,
     CycleHigh,
 }
 
-#[derive(Clone, Copy, PartialEq, Eq, Debug)]
+#[derive(Clone, Copy)]
 pub enum Instruction {
     Lui {
         rd: Register,

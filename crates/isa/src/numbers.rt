@@ -4,7 +4,7 @@ ghost use Rattle.isa.specs.Tables.{ReadAs, ReadsOperation, condition_number, con
 use crate::instruction::{Condition, Counter, LoadWidth, Operation, StoreWidth};
 
 // A number that its table doesn't have, or a word that has one and so is no instruction.
-#[derive(Clone, Copy, PartialEq, Eq, Debug)]
+#[derive(Clone, Copy)]
 pub struct Illegal;
 
 // By funct3.

@@ -6,5 +6,3 @@ mod line;
 pub mod machine;
 pub mod report;
 pub mod switch;
-#[cfg(test)]
-mod tests;

@@ -5,7 +5,7 @@ ghost use Rattle.paging.specs.Entries.{flag, frame_of, grants, is_leaf, is_point
 use crate::leaf::Leaf;
 use words::bits::bits;
 
-#[derive(Clone, Copy, PartialEq, Eq, Debug)]
+#[derive(Clone, Copy)]
 pub struct Entry(pub u32);
 
 // Where the flags stand. G and the bits for software are never looked at.

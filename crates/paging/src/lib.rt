@@ -5,7 +5,5 @@ pub mod access;
 pub mod entry;
 pub mod laws;
 pub mod leaf;
-#[cfg(test)]
-mod tests;
 pub mod translate;
 pub mod walk;

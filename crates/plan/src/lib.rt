@@ -7,6 +7,4 @@ pub mod laws;
 pub mod model;
 pub mod refusal;
 pub mod rules;
-#[cfg(test)]
-mod tests;
 pub mod timetable;

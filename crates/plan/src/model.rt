@@ -6,7 +6,7 @@ pub const MOST_SLOTS: usize = 64;
 pub const MOST_CHANNELS: usize = 16;
 
 // How many there are of each.
-#[derive(Clone, Copy, Debug, Default, PartialEq, Eq)]
+#[derive(Clone, Copy, Default)]
 pub struct Counts {
     pub partitions: u8,
     pub slots: u8,
@@ -14,28 +14,28 @@ pub struct Counts {
 }
 
 // A program of its own: the frame of its root page table, and the address of its first instruction.
-#[derive(Clone, Copy, Debug, Default, PartialEq, Eq)]
+#[derive(Clone, Copy, Default)]
 pub struct Partition {
     pub root: u16,
     pub start: u32,
 }
 
 // Which partition runs, and for how many cycles.
-#[derive(Clone, Copy, Debug, Default, PartialEq, Eq)]
+#[derive(Clone, Copy, Default)]
 pub struct Slot {
     pub partition: u8,
     pub length: u32,
 }
 
 // A partition's end of a channel: one of its virtual pages.
-#[derive(Clone, Copy, Debug, Default, PartialEq, Eq)]
+#[derive(Clone, Copy, Default)]
 pub struct Endpoint {
     pub partition: u8,
     pub page: u32,
 }
 
 // At each switch after a slot of the sender its page is copied over the receiver's.
-#[derive(Clone, Copy, Debug, Default, PartialEq, Eq)]
+#[derive(Clone, Copy, Default)]
 pub struct Channel {
     pub sender: Endpoint,
     pub receiver: Endpoint,

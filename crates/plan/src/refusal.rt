@@ -4,14 +4,14 @@ ghost use Rattle.plan.specs.Refused.{number_of, place_of, refusal_text};
 
 use std::fmt;
 
-#[derive(Clone, Copy, Debug, PartialEq, Eq)]
+#[derive(Clone, Copy, Debug)]
 pub enum Count {
     Partitions,
     Slots,
     Channels,
 }
 
-#[derive(Clone, Copy, Debug, PartialEq, Eq)]
+#[derive(Clone, Copy, Debug)]
 pub enum Refusal {
     // the bytes end inside the plan, after so many
     Truncated(usize),

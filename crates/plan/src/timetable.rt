@@ -5,7 +5,7 @@ ghost use Rattle.plan.specs.Timetable.{first_turn, next_turn, slot_of};
 use crate::model::{Plan, Slot};
 
 // One slot of a run: how many ran before it, and the clock at which it begins.
-#[derive(Clone, Copy, Debug, PartialEq, Eq)]
+#[derive(Clone, Copy)]
 pub struct Turn {
     pub number: u32,
     pub begin: u64,

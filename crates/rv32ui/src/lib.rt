@@ -8,6 +8,4 @@ pub mod row;
 mod rows;
 pub mod runner;
 pub mod tally;
-#[cfg(test)]
-mod tests;
 pub mod word;

@@ -4,7 +4,7 @@ use crate::rows::*;
 
 // How the operands of a row are put into words. An enum, and no function for each operation: 27 operations share five forms, and a contract
 // can name them.
-#[derive(Clone, Copy, Debug, PartialEq, Eq)]
+#[derive(Clone, Copy)]
 pub enum Form {
     // both operands in registers
     Registers,

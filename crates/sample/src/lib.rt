@@ -10,6 +10,3 @@ pub fn laws()
     ensures differs { Differs }
     ensures refuses { Refuses }
 {}
-
-#[cfg(test)]
-mod tests;

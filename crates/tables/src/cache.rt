@@ -11,7 +11,7 @@ const LINES: usize = CACHE_LINES as usize;
 const LINE_BYTES: u32 = 64;
 
 // A line of memory that is in the cache: the tag is the part of its number that its place in the cache does not tell.
-#[derive(Clone, Copy, PartialEq, Eq, Debug)]
+#[derive(Clone, Copy)]
 pub struct Line {
     pub tag: u32,
     // the line's own mark; whether there is a line, the `Option` says

@@ -11,8 +11,6 @@ use tlb::Tlb;
 pub mod cache;
 pub mod laws;
 pub mod predictor;
-#[cfg(test)]
-mod tests;
 pub mod tlb;
 
 #[derive(Clone, Copy)]

@@ -14,7 +14,7 @@ use words::costs::WALK;
 const ENTRIES: usize = 16;
 
 // What is known of a page.
-#[derive(Clone, Copy, PartialEq, Eq, Debug)]
+#[derive(Clone, Copy)]
 pub struct TlbEntry {
     pub page: u32,
     pub leaf: Leaf,

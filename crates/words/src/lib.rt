@@ -6,5 +6,3 @@ pub mod bytes;
 pub mod costs;
 pub mod frames;
 pub mod laws;
-#[cfg(test)]
-mod tests;

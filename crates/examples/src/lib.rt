@@ -1,0 +1,23 @@
+// What each layer does, by example: the tests of the public functions, over the libraries as their callers have them.
+#![tactic(auto)]
+
+#[cfg(test)]
+mod encodings;
+#[cfg(test)]
+mod fields;
+#[cfg(test)]
+mod images;
+#[cfg(test)]
+mod layout;
+#[cfg(test)]
+mod lookups;
+#[cfg(test)]
+mod plans;
+#[cfg(test)]
+mod slots;
+#[cfg(test)]
+mod steps;
+#[cfg(test)]
+mod verdicts;
+#[cfg(test)]
+mod walks;
