@@ -3,8 +3,8 @@
 
     python3 tools/lines.py [--write]      --write puts it there
 
-A line counts if it is not blank. Code is src/ with its contracts and without its tests; specs and proofs are what these folders hold; of edits,
-which are the files of must-fail/, the files are counted.
+A line counts if it is not blank. Code is src/ with its contracts, that of `examples` tests; specs and proofs are what these folders hold; of edits, which
+are the files of must-fail/, the files are counted.
 """
 import os
 import re
@@ -12,6 +12,8 @@ import sys
 
 ROOT = os.path.join(os.path.dirname(os.path.abspath(__file__)), "..")
 COLUMNS = ("code", "tests", "specs", "proofs", "edits")
+# the crate that holds tests alone
+TESTS = "examples"
 
 
 def crates():
@@ -37,7 +39,7 @@ def lines(path):
 def count(crate):
     base = os.path.join(ROOT, "crates", crate)
     sources = list(files(os.path.join(base, "src"), ".rt"))
-    tests = [path for path in sources if os.path.basename(path) == "tests.rt"]
+    tests = sources if crate == TESTS else []
     return {
         "code": sum(lines(path) for path in sources if path not in tests),
         "tests": sum(lines(path) for path in tests),

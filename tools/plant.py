@@ -100,7 +100,7 @@ def bugs_of(line, variants, names):
 
 def all_bugs(crate, word):
     """Each as its file, the number of its line, the line and what becomes of it."""
-    texts = {it.relative_to(crate).as_posix(): it.read_text() for it in sorted((crate / "src").rglob("*.rt")) if it.name != "tests.rt"}
+    texts = {it.relative_to(crate).as_posix(): it.read_text() for it in sorted((crate / "src").rglob("*.rt"))}
     variants = {}
     for text in texts.values():
         for found in VARIANT.finditer(text):

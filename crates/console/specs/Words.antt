@@ -58,3 +58,11 @@ IsUnreadable path _ = ⊥
 abbrev pub IsNoCount : List ℕ → Problem → Type 0
 IsNoCount path (SlotsLength name) = string_bytes name ≡ path
 IsNoCount path problem = IsUnreadable path problem
+
+-- whether a problem is of how the program was called: its message tells the usage too
+abbrev pub is_of_usage : Problem → Bool
+is_of_usage (MissingArgument name) = true
+is_of_usage (SurplusArgument text) = true
+is_of_usage (UnexpectedOption text) = true
+is_of_usage (NotNumber name most text) = true
+is_of_usage _ = false

@@ -1,7 +1,7 @@
 // Why a program ends without doing its job, and the one line that says so.
 ghost use Rattle.std.specs.Prelude.{◌≡◌, IfOk, is_ok, if◌then◌else◌};
 ghost use Rattle.std.specs.Process.{exit_status};
-ghost use Rattle.console.specs.Words.{AsksOfItself};
+ghost use Rattle.console.specs.Words.{AsksOfItself, is_of_usage};
 
 use crate::arguments::is_word;
 use plan::refusal::Refusal;
@@ -56,7 +56,9 @@ pub enum Problem {
 }
 
 impl Problem {
-    fn is_of_usage(&self) -> bool {
+    fn is_of_usage(&self) -> bool
+        ensures { result ≡ is_of_usage self.now }
+    {
         matches!(
             self,
             Problem::MissingArgument(_)

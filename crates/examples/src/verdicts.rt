@@ -1,4 +1,4 @@
-// The checker run on the sample's plans and memories: what the theorems say, and more verdicts.
+// The checker run on the plans and memories of the crate `sample`: what its theorems say, and more verdicts.
 use checker::check;
 use std::alloc::{AllocError, Global};
 use std::test::Fail;
