@@ -25,7 +25,7 @@ pub fn argument<'a>(words: &'a [String], at: usize, name: &'static str) -> Resul
 }
 
 // Whether a word is an option: it begins with a hyphen.
-pub fn is_option(word: &str) -> bool
+pub(crate) fn is_option(word: &str) -> bool
     ensures { result ≡ is_option word.now }
 {
     word.as_bytes().starts_with(b"-")

@@ -87,7 +87,7 @@ impl Program {
 
     // Says what went wrong, if anything did. A problem stays a problem, so the process ends with status 1; there is nothing more
     // to tell of it, hence `()`.
-    pub fn ended(self, rt: &HostRuntime, outcome: Result<(), Problem>) -> Result<(), ()>
+    fn ended(self, rt: &HostRuntime, outcome: Result<(), Problem>) -> Result<(), ()>
         ensures { is_ok result ≡ is_ok outcome }
     {
         let Err(problem) = outcome else {

@@ -40,27 +40,27 @@ impl Context {
     }
 
     // The address after the instruction; addresses wrap.
-    pub fn next(&self) -> u32
+    pub(crate) fn next(&self) -> u32
         ensures { result ≡ next_pc self.now }
     {
         self.pc.wrapping_add(4)
     }
 
     // The program stops where it is.
-    pub fn stop(&mut self, cause: Cause)
+    pub(crate) fn stop(&mut self, cause: Cause)
         ensures { self.new ≡ stopped self.old cause }
     {
         self.state = State::Stopped { cause, pc: self.pc };
     }
 
-    pub fn go_on(&mut self, pc: u32)
+    pub(crate) fn go_on(&mut self, pc: u32)
         ensures { self.new ≡ goes_on self.old pc }
     {
         self.pc = pc;
     }
 
     // Sets a register and goes on to the next instruction.
-    pub fn set(&mut self, register: Register, value: u32)
+    pub(crate) fn set(&mut self, register: Register, value: u32)
         ensures { self.new ≡ register_set self.old register value }
     {
         let next = self.next();
@@ -69,7 +69,7 @@ impl Context {
     }
 
     // Goes on at the target and leaves the address of the next instruction in a register, or stops at a target that is misaligned.
-    pub fn jump(&mut self, link: Register, target: u32)
+    pub(crate) fn jump(&mut self, link: Register, target: u32)
         ensures { self.new ≡ jumped self.old link target }
     {
         if target % 4 == 0 {

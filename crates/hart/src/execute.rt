@@ -98,7 +98,7 @@ impl Core {
 
     // What the instruction asks for, with what that costs. One match over ten kinds, each arm a call: parts of it would be named by nothing.
     #[tactic(auto, using(crate::proofs::Ran::load_words), unfolding(crate::specs::Core::executed))]
-    pub fn execute(&mut self, instruction: Instruction, words: &mut [u32]) -> u32
+    pub(crate) fn execute(&mut self, instruction: Instruction, words: &mut [u32]) -> u32
         ensures cost { result ≡ (execution_of self.old words.old instruction).cost }
         ensures most { result ≤ page_walk + miss + write_back }
         ensures core { self.new ≡ with_ran self.old (execution_of self.old words.old instruction) }

@@ -3,8 +3,8 @@
 
 pub mod cause;
 pub mod context;
-pub mod execute;
+mod execute;
 pub mod laws;
-pub mod memory;
+mod memory;
 pub mod step;
 pub mod stepper;

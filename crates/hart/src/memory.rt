@@ -6,7 +6,7 @@ use isa::instruction::{LoadWidth, StoreWidth};
 use words::bits::{bits, sign_extended};
 
 // How many bytes a load has, and a store. Loads and stores have enums of their own, so a trait over both would hold these same two matches.
-pub fn load_bytes(width: LoadWidth) -> u32
+pub(crate) fn load_bytes(width: LoadWidth) -> u32
     ensures { result ≡ load_bytes width }
 {
     match width {
@@ -16,7 +16,7 @@ pub fn load_bytes(width: LoadWidth) -> u32
     }
 }
 
-pub fn store_bytes(width: StoreWidth) -> u32
+pub(crate) fn store_bytes(width: StoreWidth) -> u32
     ensures { result ≡ store_bytes width }
 {
     match width {
@@ -27,7 +27,7 @@ pub fn store_bytes(width: StoreWidth) -> u32
 }
 
 // What a load gives from the word that its address lies in.
-pub fn load(width: LoadWidth, word: u32, address: u32) -> u32
+pub(crate) fn load(width: LoadWidth, word: u32, address: u32) -> u32
     ensures { result ≡ loaded width word address }
 {
     let shift = 8 * (address % 4);
@@ -41,7 +41,7 @@ pub fn load(width: LoadWidth, word: u32, address: u32) -> u32
 }
 
 // The word after a store into it.
-pub fn store(width: StoreWidth, word: u32, address: u32, value: u32) -> u32
+pub(crate) fn store(width: StoreWidth, word: u32, address: u32, value: u32) -> u32
     ensures { result ≡ stored width word address value }
 {
     match width {

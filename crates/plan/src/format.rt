@@ -65,7 +65,7 @@ impl Counts {
     }
 
     // How many bytes a plan with these counts has.
-    pub fn plan_size(self) -> usize
+    pub(crate) fn plan_size(self) -> usize
         ensures { result ≡ plan_size self }
     {
         self.channels_from() + Channel::SIZE * usize::from(self.channels)

@@ -133,7 +133,7 @@ impl Plan {
 
     // The least budget that covers every switch: the rest of the last instruction, the write-back of every line, and the
     // messages of the partition with the most channels.
-    pub fn ample_budget(&self) -> u32
+    pub(crate) fn ample_budget(&self) -> u32
         ensures { result ≡ ample self.now }
     {
         costs::SWITCH + costs::MESSAGE * u32::from(self.most_channels_out())
