@@ -3,7 +3,7 @@
 
     python3 tools/lines.py [--write]      --write puts it there
 
-A line counts if it is not blank. Code is src/ with its contracts, that of `examples` tests; specs and proofs are what these folders hold; of edits, which
+A line counts if it is not blank. Code is src/ with its contracts, that of `by_example` tests; specs and proofs are what these folders hold; of edits, which
 are the files of must-fail/, the files are counted.
 """
 import os
@@ -13,7 +13,7 @@ import sys
 ROOT = os.path.join(os.path.dirname(os.path.abspath(__file__)), "..")
 COLUMNS = ("code", "tests", "specs", "proofs", "edits")
 # the crate that holds tests alone
-TESTS = "examples"
+TESTS = "by_example"
 
 
 def crates():

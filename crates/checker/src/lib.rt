@@ -6,13 +6,13 @@ ghost use Rattle.checker.specs.Checked.{TellsAll, checked};
 ghost use Rattle.checker.specs.Found.{AcceptedSeparate, AcceptedUnshared, CheckedJudges, Judges, OneFirst};
 ghost use Rattle.checker.specs.Lawful.{LeadsMaps};
 
-pub mod claims;
+mod claims;
 pub mod fault;
-pub mod marks;
+mod marks;
 pub mod pages;
-pub mod roots;
-pub mod sharing;
-pub mod tables;
+mod roots;
+mod sharing;
+mod tables;
 
 use crate::pages::{Ends, all_ends, check_pages};
 use crate::roots::check_roots;

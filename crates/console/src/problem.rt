@@ -85,20 +85,6 @@ impl Program {
         Ok(false)
     }
 
-    // Says what went wrong, if anything did. A problem stays a problem, so the process ends with status 1; there is nothing more
-    // to tell of it, hence `()`.
-    fn ended(self, rt: &HostRuntime, outcome: Result<(), Problem>) -> Result<(), ()>
-        ensures { is_ok result ≡ is_ok outcome }
-    {
-        let Err(problem) = outcome else {
-            return Ok(());
-        };
-        if let Some(problem) = left_to_say(rt, problem) {
-            self.complain(rt, &problem);
-        }
-        Err(())
-    }
-
     // One line on the standard error. A reader that went away is told nothing.
     fn complain(self, rt: &HostRuntime, problem: &Problem) {
         let name = self.name;
@@ -110,15 +96,17 @@ impl Program {
         };
     }
 
-    // Says what went wrong, and gives the status that the process ends with.
+    // Says what went wrong, if anything did, and gives the status that the process ends with.
     pub fn exit_code(self, rt: &HostRuntime, outcome: Result<(), Problem>) -> ExitCode
         ensures { exit_status result ≡ (if is_ok outcome then 0 else 1) }
     {
-        if self.ended(rt, outcome).is_ok() {
-            ExitCode::SUCCESS
-        } else {
-            ExitCode::FAILURE
+        let Err(problem) = outcome else {
+            return ExitCode::SUCCESS;
+        };
+        if let Some(problem) = left_to_say(rt, problem) {
+            self.complain(rt, &problem);
         }
+        ExitCode::FAILURE
     }
 }
 

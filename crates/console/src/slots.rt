@@ -62,10 +62,7 @@ fn in_file(rt: &HostRuntime, path: &str) -> Result<u32, Problem>
 fn other_length(rt: &HostRuntime, path: &str) -> Problem
     ensures { IsNoCount path.now result }
 {
-    match String::from_str(rt.alloc(), path) {
-        Ok(path) => Problem::SlotsLength(path),
-        Err(error) => Problem::NoMemory(error),
-    }
+    String::from_str(rt.alloc(), path).map_or_else(Problem::NoMemory, Problem::SlotsLength)
 }
 
 fn four_bytes(bytes: &[u8]) -> Option<u32>

@@ -1,5 +1,5 @@
 // Bytes and halves in a word, low byte first.
-ghost use Rattle.std.specs.Prelude.{◌≡◌, ◌+◌, ◌≤◌};
+ghost use Rattle.std.specs.Prelude.{◌≡◌, ◌+◌, ◌<◌, ◌≤◌};
 ghost use Rattle.hart.specs.Memory.{load_bytes, loaded, replaced, store_bytes, stored};
 
 use isa::instruction::{LoadWidth, StoreWidth};
@@ -52,11 +52,9 @@ pub(crate) fn store(width: StoreWidth, word: u32, address: u32, value: u32) -> u
 }
 
 fn replace(word: u32, shift: u32, count: u32, value: u32) -> u32
-    requires { shift + count ≤ 32 }
+    requires inside { shift < 32 }
+    requires room { shift + count ≤ 32 }
     ensures { result ≡ replaced word shift count value }
 {
-    if shift >= 32 {
-        return word;
-    }
     word - (bits(word, shift, count) << shift) + (bits(value, 0, count) << shift)
 }

@@ -15,7 +15,7 @@ use tables::Tables;
 use tables::tlb::Lookup;
 use words::frames;
 
-// What parts the places of one program from those of the next.
+// So far apart the decoder's places for one program are from those for the next: 273 of its 1,024 for each frame between their roots.
 const APART: u32 = 1092;
 
 // A program on the core: its context, the core's tables, the frame of its root page table, and the clock.

@@ -1,7 +1,7 @@
 // The kernel: slots by the plan, a switch after each, and messages over its channels.
 #![tactic(auto)]
 
-pub mod inside;
+mod inside;
 mod line;
 pub mod machine;
 pub mod report;

@@ -26,6 +26,7 @@ impl Line {
         let mut bytes = [0; LONGEST];
         let mut start = LONGEST;
         let mut rest = address;
+        // the proof calls the loop by its name
         'digits: for _ in 0..8_u8 {
             start -= 1;
             bytes[start] = hexadecimal_digit(rest % 16);

@@ -15,7 +15,7 @@ use plan::model::{MOST_PARTITIONS, Plan};
 use tables::Tables;
 use words::costs::{MESSAGE, WRITE_BACK};
 
-// The clock does not grow past this.
+// No slot begins once the clock has come to this.
 const LATEST: u64 = 1 << 63;
 
 #[derive(Clone, Copy)]

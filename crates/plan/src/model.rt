@@ -6,7 +6,7 @@ pub const MOST_SLOTS: usize = 64;
 pub const MOST_CHANNELS: usize = 16;
 
 // How many there are of each.
-#[derive(Clone, Copy, Default)]
+#[derive(Clone, Copy)]
 pub struct Counts {
     pub partitions: u8,
     pub slots: u8,

@@ -69,13 +69,13 @@ impl Refusal {
             Refusal::CountRange(Count::Partitions) => 0,
             Refusal::CountRange(Count::Slots) => 1,
             Refusal::CountRange(Count::Channels) => 2,
-            Refusal::SlotRule(slot) => slot as usize,
-            Refusal::ChannelRule(channel) => channel as usize,
-            Refusal::ChannelPage(channel) => channel as usize,
-            Refusal::RootRule(partition) => partition as usize,
-            Refusal::TableMalformed(partition) => partition as usize,
-            Refusal::FrameShared(partition) => partition as usize,
-            Refusal::StartMisaligned(partition) => partition as usize,
+            Refusal::SlotRule(at)
+            | Refusal::ChannelRule(at)
+            | Refusal::ChannelPage(at)
+            | Refusal::RootRule(at)
+            | Refusal::TableMalformed(at)
+            | Refusal::FrameShared(at)
+            | Refusal::StartMisaligned(at) => usize::from(at),
             Refusal::BudgetRule => 3,
             Refusal::FramesMissing => 0,
             Refusal::Surplus(at) => at,

@@ -38,7 +38,7 @@ impl Cache {
         }
     }
 
-    // A load or store of a word: the cycles that it costs beyond its instruction's own.
+    // A load or a store: the cycles that it costs beyond its instruction's own.
     // A frame has as many lines as the cache, so the place of a line in the cache is its place in the frame, and the frame is its tag.
     pub fn access(&mut self, place: Place, store: bool) -> u32
         ensures cost { result ≡ access_cost self.old (line_of place) }

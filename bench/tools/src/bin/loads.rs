@@ -157,7 +157,7 @@ fn waiting_programs() -> Vec<Program> {
     [itself, poll, clock].into_iter().map(|words| with_data(words, Vec::new(), 1)).collect()
 }
 
-/// The plan that takes longest to check: every root and every table is full, and all counts are the highest.
+/// A plan of the largest size: every root and every table is full, and all counts are the highest.
 fn largest() -> Case {
     let rng = &mut Rng::new(9);
     let reserved: BTreeSet<usize> = (0..256).collect();

@@ -1,4 +1,4 @@
-// Examples. The program `conformance` has the many.
+// Single steps of the core: causes, the halves of the clock, a store. The program `conformance` has the many.
 use crate::layout::lay_out_code;
 use hart::cause::Cause;
 use hart::step::Core;

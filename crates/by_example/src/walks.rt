@@ -1,4 +1,4 @@
-// Frame 0 is the root, frame 1 the table that its first entry points to, and entry 16 there the leaf of page 16.
+// Walks and translations with every bit of an entry. Frame 0 is the root, frame 1 the table that its first entry points to, and entry 16 there the leaf of page 16.
 use crate::layout::TO_FRAME_1;
 use paging::access::Access;
 use paging::leaf::Leaf;

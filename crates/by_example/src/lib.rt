@@ -1,4 +1,4 @@
-// What each layer does, by example: the tests of the public functions, over the libraries as their callers have them.
+// What each layer does, by example: the tests of the functions that other crates can call.
 #![tactic(auto)]
 
 #[cfg(test)]
