@@ -7,7 +7,7 @@ use hart::context::State;
 use isa::decoder::Decoder;
 use kernel::machine::Machine;
 use kernel::report::Report;
-use kernel::switch::deliver;
+use kernel::messages::deliver;
 use plan::model::{Channel, Counts, Endpoint, MOST_CHANNELS, Partition, Plan, Slot};
 use std::test::Fail;
 use words::frames::{read, write};

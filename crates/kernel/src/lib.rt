@@ -4,5 +4,5 @@
 mod inside;
 mod line;
 pub mod machine;
+pub mod messages;
 pub mod report;
-pub mod switch;

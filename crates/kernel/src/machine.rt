@@ -4,8 +4,8 @@ ghost use Rattle.kernel.specs.Machine.{after_slot, loaded, switched, system};
 ghost use Rattle.kernel.specs.Reports.{slot_report};
 
 use crate::inside::run_until;
+use crate::messages::deliver;
 use crate::report::Report;
-use crate::switch::deliver;
 use checker::Accepted;
 use hart::context::Context;
 use hart::step::Core;

@@ -1,7 +1,7 @@
 -- What the loop of `deliver` keeps.
 use Rattle.std.proofs.Common.{◌≡◌}
 use Rattle.kernel.specs.Switch.{delivered}
-use Rattle.kernel.proofs.switch.deliver.Given as goal
+use Rattle.kernel.proofs.messages.deliver.Given as goal
 
 abbrev pub invariant-loop-k : goal.invariant-loop-k
 invariant-loop-k l = l.words ≡ delivered l.accepted l.who l.k l.initial.words

@@ -1,4 +1,4 @@
-// The switch after a slot: messages.
+// The messages that go after a slot: over each channel of the partition that ran, its page is copied to the receiver's.
 ghost use Rattle.std.specs.Prelude.{◌≡◌};
 ghost use Rattle.checker.specs.Pages.{ends_at};
 ghost use Rattle.kernel.specs.Switch.{carried, delivered};
