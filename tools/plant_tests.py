@@ -9,9 +9,13 @@ tools/plant.py. A bug that the prover lets pass, or that it has no contract to h
 what the programs have to print are tried. Bugs that do not compile are not counted. Each bug that passes is printed; the last line has the counts.
 """
 import concurrent.futures
+import contextlib
+import os
 import pathlib
 import queue
+import resource
 import shutil
+import signal
 import subprocess
 import sys
 import tempfile
@@ -25,8 +29,16 @@ NOT_COMPILED, REFUSED, FOUND, PASSED = "did not compile", "refused by the prover
 
 
 def output_of(words, folder):
-    run = subprocess.run(words, cwd=folder, stdin=subprocess.DEVNULL, stdout=subprocess.PIPE, stderr=subprocess.STDOUT, timeout=200)
-    return run.returncode, run.stdout.decode(errors="replace")
+    """Its status and what it writes. What does not end is stopped with all that it started, and no file may grow past a gigabyte."""
+    limit = lambda: resource.setrlimit(resource.RLIMIT_FSIZE, (1 << 30, 1 << 30))
+    pipes = {"stdin": subprocess.DEVNULL, "stdout": subprocess.PIPE, "stderr": subprocess.STDOUT}
+    with subprocess.Popen(words, cwd=folder, start_new_session=True, preexec_fn=limit, **pipes) as run:
+        try:
+            said, _ = run.communicate(timeout=200)
+        finally:
+            with contextlib.suppress(ProcessLookupError):
+                os.killpg(run.pid, signal.SIGKILL)
+    return run.returncode, said.decode(errors="replace")
 
 
 def prints_as_expected(copy, program):
