@@ -25,12 +25,14 @@ from plant import ROOT, asked_for, options_of  # noqa: E402
 
 PROGRAMS = ["run", "plan_check", "conformance", "speed"]
 SCRIPTS = ["programs", "canal", "cases", "refusals"]
+# in bytes, as large as the largest file that the scripts make
+LARGEST = 8 << 30
 NOT_COMPILED, REFUSED, FOUND, PASSED = "did not compile", "refused by the prover", "found by a test", "passed"
 
 
 def output_of(words, folder):
-    """Its status and what it writes. What does not end is stopped with all that it started, and no file may grow past a gigabyte."""
-    limit = lambda: resource.setrlimit(resource.RLIMIT_FSIZE, (1 << 30, 1 << 30))
+    """Its status and what it writes. What does not end is stopped with all that it started, and no file may grow past what the tests make."""
+    limit = lambda: resource.setrlimit(resource.RLIMIT_FSIZE, (LARGEST, LARGEST))
     pipes = {"stdin": subprocess.DEVNULL, "stdout": subprocess.PIPE, "stderr": subprocess.STDOUT}
     with subprocess.Popen(words, cwd=folder, start_new_session=True, preexec_fn=limit, **pipes) as run:
         try:
@@ -103,6 +105,8 @@ def main():
         return
     counts = dict.fromkeys([NOT_COMPILED, REFUSED, FOUND, PASSED], 0)
     with tempfile.TemporaryDirectory(prefix="plant-") as folder:
+        # what a stopped script leaves goes with the folder
+        os.environ["TMPDIR"] = folder
         copies = queue.Queue()
         for job in range(options.jobs):
             copy = pathlib.Path(folder) / str(job)
