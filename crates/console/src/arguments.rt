@@ -57,9 +57,10 @@ pub fn at_most(words: &[String], count: usize) -> Result<(), Problem>
 pub fn not_number(rt: &HostRuntime, name: &'static str, most: u64, word: &str) -> Problem
     ensures { IsNoNumber name.now most word.now result }
 {
-    String::from_str(rt.alloc(), word).map_or_else(Problem::NoMemory, |word| {
-        Problem::NotNumber(name, most, word)
-    })
+    match String::from_str(rt.alloc(), word) {
+        Ok(word) => Problem::NotNumber(name, most, word),
+        Err(error) => Problem::NoMemory(error),
+    }
 }
 
 // Whether the word at a place is this text.

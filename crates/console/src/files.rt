@@ -41,10 +41,10 @@ pub(crate) fn read_up_to(rt: &HostRuntime, path: &str, limit: usize) -> Result<V
 fn unreadable(rt: &HostRuntime, path: &str, error: io::Error) -> Problem
     ensures { IsUnreadable path.now result }
 {
-    String::from_str(rt.alloc(), path).map_or_else(
-        Problem::NoMemory,
-        |path| Problem::Unreadable(path, error),
-    )
+    match String::from_str(rt.alloc(), path) {
+        Ok(path) => Problem::Unreadable(path, error),
+        Err(error) => Problem::NoMemory(error),
+    }
 }
 
 fn read_some(rt: &HostRuntime, path: &str, limit: usize) -> io::Result<Vec<u8>>

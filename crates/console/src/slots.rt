@@ -62,7 +62,10 @@ fn in_file(rt: &HostRuntime, path: &str) -> Result<u32, Problem>
 fn other_length(rt: &HostRuntime, path: &str) -> Problem
     ensures { IsNoCount path.now result }
 {
-    String::from_str(rt.alloc(), path).map_or_else(Problem::NoMemory, Problem::SlotsLength)
+    match String::from_str(rt.alloc(), path) {
+        Ok(path) => Problem::SlotsLength(path),
+        Err(error) => Problem::NoMemory(error),
+    }
 }
 
 fn four_bytes(bytes: &[u8]) -> Option<u32>
