@@ -1,4 +1,4 @@
-// What each layer does, by example: the tests of the functions that other crates can call.
+// The tests: what functions that other crates can call do, by example.
 #![tactic(auto)]
 
 #[cfg(test)]
