@@ -1,8 +1,8 @@
 -- Each rule of the plan is a stage of a chain of rules.
-use Rattle.std.proofs.Common.{◌≡◌, ℕ, zero, suc, ◌+◌, ◌*◌, ◌<◌, ◌≤◌, true, List, length, Decides, Option, sym, refl, ap, ◌∙◌, subst, inl, inr, arith}
+use Rattle.std.proofs.Common.{◌≡◌, ℕ, zero, suc, ◌+◌, ◌<◌, ◌≤◌, true, List, length, Decides, Option, sym, refl, ap, ◌∙◌, subst, inl, inr, arith}
 use Rattle.std.proofs.lemmas.Bool.{cases_eq, both_ways}
 use Rattle.std.proofs.lemmas.Bool.Decides.{nat_tests}
-use Rattle.words.specs.Costs.{message, switch}
+use Rattle.words.specs.Costs.{switch}
 use Rattle.words.specs.First.{first, most}
 use Rattle.words.proofs.First.{most_bound}
 use Rattle.plan.specs.declared.model.Plan.{Plan}
@@ -12,8 +12,10 @@ use Rattle.plan.specs.declared.refusal.Refusal.{Refusal}
 use Rattle.plan.specs.declared.refusal.Refusal.TheVariants.{Truncated, CountRange, SlotRule, ChannelRule, ChannelPage, RootRule, TableMalformed, FrameShared, StartMisaligned, BudgetRule, FramesMissing, Surplus}
 use Rattle.plan.specs.Format.{plan_of, plan_size}
 use Rattle.plan.specs.Refused.{number_of, place_of, refusal, count_at, Named}
-use Rattle.plan.specs.Rules.{truncated, surplus, count_kept, count_fault, slot_kept, slot_fault, channel_kept, channel_fault, start_kept, start_fault, ample, channels_out, budget_kept, budget_fault}
+use Rattle.plan.specs.Rules.{truncated, surplus, count_kept, count_fault, slot_kept, slot_fault, channel_kept, channel_fault, start_kept, start_fault, budget_kept, budget_fault}
 use Rattle.plan.specs.Lawful.{Broken, CountFits, SlotFits, ChannelFits, StartFits, BudgetFits}
+use Rattle.plan.specs.Switch.{copies, copy_cycles, required_budget}
+use Rattle.plan.proofs.Copying.{cycles_of}
 use Rattle.plan.proofs.Chain.{Stage, single, each}
 
 pub named : Named
@@ -58,25 +60,25 @@ pub start_decides : (p : Plan) (k : ℕ) → Decides (start_kept p k) (StartFits
 start_decides p k = ((λ e. grind (arith, nat_tests)), λ f. grind (arith, nat_tests))
 
 -- a budget that covers the switch after every partition's slot covers the longest
-longest_covered : (sends : ℕ → ℕ) (n budget : ℕ) → switch ≤ budget → ((who : ℕ) → who < n → switch + message * sends who ≤ budget) → switch + message * most sends n ≤ budget
+longest_covered : (work : ℕ → ℕ) (n budget : ℕ) → switch ≤ budget → ((who : ℕ) → who < n → switch + work who ≤ budget) → switch + most work n ≤ budget
 unfolding most
-longest_covered sends zero budget alone each = omega (arith, alone)
-longest_covered sends (suc n) budget alone each = omega (arith, longest_covered sends n budget alone (λ who l. each who (omega arith)), each n (omega arith))
+longest_covered work zero budget alone each = omega (arith, alone)
+longest_covered work (suc n) budget alone each = omega (arith, longest_covered work n budget alone (λ who l. each who (omega arith)), each n (omega arith))
 
-pub ample_fits : (p : Plan) → BudgetFits p → ample p ≤ p.budget
-ample_fits p f = longest_covered (channels_out p) p.counts.partitions p.budget f.2 f.3
+pub budget_covers : (p : Plan) → BudgetFits p → required_budget p ≤ p.budget
+budget_covers p f = longest_covered (λ who. copy_cycles (copies p who)) p.counts.partitions p.budget f.2 (λ who l. omega (arith, cycles_of p who, f.3 who l))
 
-budget_parts : (p : Plan) → budget_kept p ≡ true → (64 ≤ p.budget) × (p.budget ≤ 100000) × (ample p ≤ p.budget)
+budget_parts : (p : Plan) → budget_kept p ≡ true → (64 ≤ p.budget) × (p.budget ≤ 100000) × (required_budget p ≤ p.budget)
 budget_parts p e = (grind (arith, nat_tests), grind (arith, nat_tests), grind (arith, nat_tests))
 
-parts_budget : (p : Plan) → 64 ≤ p.budget → p.budget ≤ 100000 → ample p ≤ p.budget → budget_kept p ≡ true
+parts_budget : (p : Plan) → 64 ≤ p.budget → p.budget ≤ 100000 → required_budget p ≤ p.budget → budget_kept p ≡ true
 parts_budget p least most enough = grind (arith, nat_tests)
 
 pub budget_decides : (p : Plan) → Decides (budget_kept p) (BudgetFits p)
 budget_decides p = (
   (λ e. (let z = budget_parts p e in
-      (z.0, z.1, omega (arith, z.2), λ who l. omega (arith, z.2, most_bound (channels_out p) p.counts.partitions who l)))),
-  λ f. parts_budget p f.0 f.1 (ample_fits p f),
+      (z.0, z.1, omega (arith, z.2), λ who l. omega (arith, z.2, cycles_of p who, most_bound (λ who. copy_cycles (copies p who)) p.counts.partitions who l)))),
+  λ f. parts_budget p f.0 f.1 (budget_covers p f),
 )
 
 count_place_at : (k : ℕ) → k < 3 → place_of (CountRange (count_at k)) ≡ k

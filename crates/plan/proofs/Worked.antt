@@ -1,13 +1,14 @@
 -- The example plan, worked out.
 use Rattle.std.proofs.Common.{refl}
-use Rattle.words.specs.First.{first, count, most}
+use Rattle.words.specs.First.{first, most}
 use Rattle.plan.specs.Format.{plan_of, rows}
 use Rattle.plan.specs.Rules.{parsed, fault}
+use Rattle.plan.specs.Switch.{messages}
 use Rattle.plan.specs.Timetable.{begins}
 use Rattle.plan.specs.Example.{Example}
 
 pub worked : Example
-unfolding first count most plan_of rows parsed fault begins
+unfolding first most messages plan_of rows parsed fault begins
 worked = record {
   accepted = refl;
   first = refl;

@@ -3,7 +3,8 @@ use Rattle.std.specs.Prelude.{◌≡◌, ℕ, List, [], ◌∷◌, ◌++◌, rep
 use Rattle.plan.specs.declared.refusal.Count.TheVariants.{Partitions}
 use Rattle.plan.specs.declared.refusal.Refusal.TheVariants.{Truncated, CountRange, SlotRule, ChannelRule, StartMisaligned, BudgetRule, Surplus}
 use Rattle.plan.specs.Format.{plan_of}
-use Rattle.plan.specs.Rules.{ample, parsed}
+use Rattle.plan.specs.Rules.{parsed}
+use Rattle.plan.specs.Switch.{required_budget}
 use Rattle.plan.specs.Timetable.{begins}
 
 -- two partitions with roots 0 and 1 that start at 00010000, slots of 200 and 128 cycles, budget 800, no channels
@@ -41,15 +42,15 @@ pub record Example : Type 0 where
   pub second : begins (plan_of example) 1 ≡ 1000
   pub third : begins (plan_of example) 2 ≡ 1928
   pub fourth : begins (plan_of example) 3 ≡ 2928
-  pub needs : ample (plan_of example) ≡ 730
+  pub needs : required_budget (plan_of example) ≡ 730
   -- a budget of 730 is enough, and one of 729 is not
   pub enough : parsed (with_budget 2 0xDA) ≡ Ok (plan_of (with_budget 2 0xDA))
   pub not_enough : parsed (with_budget 2 0xD9) ≡ Err BudgetRule
   -- with a channel each way 1,754 are needed, and with two out of one partition 2,778
-  pub needs_each_way : ample (plan_of (each_way 6 0xDA)) ≡ 1754
+  pub needs_each_way : required_budget (plan_of (each_way 6 0xDA)) ≡ 1754
   pub enough_each_way : parsed (each_way 6 0xDA) ≡ Ok (plan_of (each_way 6 0xDA))
   pub not_enough_each_way : parsed (each_way 6 0xD9) ≡ Err BudgetRule
-  pub needs_both_out : ample (plan_of (both_out 10 0xDA)) ≡ 2778
+  pub needs_both_out : required_budget (plan_of (both_out 10 0xDA)) ≡ 2778
   pub enough_both_out : parsed (both_out 10 0xDA) ≡ Ok (plan_of (both_out 10 0xDA))
   pub not_enough_both_out : parsed (both_out 10 0xD9) ≡ Err BudgetRule
   -- no bytes, no partitions, a slot of 127 cycles, a start address that is odd, and a byte after the end

@@ -1,6 +1,9 @@
 -- The definitions of this crate.
 pub mod Refused
 pub mod Format
+pub mod Places
+pub mod Flows
+pub mod Switch
 pub mod Rules
 pub mod Lawful
 pub mod Timetable

@@ -2,6 +2,7 @@
 ghost use Rattle.plan.specs.Example.{Example};
 ghost use Rattle.plan.specs.Refused.{Named};
 ghost use Rattle.plan.specs.Rules.{FrontTellsAll, TellsAll};
+ghost use Rattle.plan.specs.Switch.{CopiesAreMessages};
 ghost use Rattle.plan.specs.Timetable.{Bounded, LawfulBounded, OnTime, Rounds};
 
 pub fn laws()
@@ -12,5 +13,6 @@ pub fn laws()
     ensures lawful_bounded { LawfulBounded }
     ensures tells_all { TellsAll }
     ensures front_tells_all { FrontTellsAll }
+    ensures copies { CopiesAreMessages }
     ensures example { Example }
 {}

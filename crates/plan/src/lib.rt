@@ -2,9 +2,11 @@
 #![tactic(auto)]
 
 pub mod ends;
+pub mod flows;
 pub mod format;
 pub mod laws;
 pub mod model;
 pub mod refusal;
 pub mod rules;
+pub mod switch;
 pub mod timetable;
