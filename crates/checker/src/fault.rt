@@ -8,7 +8,7 @@ use plan::refusal::Refusal;
 use words::frames::is_lent;
 
 #[derive(Clone, Copy)]
-pub enum Fault {
+pub(crate) enum Fault {
     Broken,
     NotLent,
 }
