@@ -8,7 +8,7 @@ use plan::refusal::Refusal;
 use words::frames::is_lent;
 
 #[derive(Clone, Copy)]
-pub(crate) enum Fault {
+pub enum Fault {
     Broken,
     NotLent,
 }

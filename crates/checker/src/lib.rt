@@ -7,7 +7,7 @@ ghost use Rattle.checker.specs.Found.{AcceptedSeparate, AcceptedUnshared, Checke
 ghost use Rattle.checker.specs.Lawful.{LeadsMaps};
 
 mod claims;
-mod fault;
+pub mod fault;
 mod marks;
 pub mod pages;
 mod roots;

@@ -8,12 +8,12 @@ use Rattle.plan.specs.Format.{plan_of}
 use Rattle.plan.specs.Lawful.{PlanLawful}
 use Rattle.plan.specs.Rules.{ample, budget_fault, channel_fault, count_fault, slot_fault, start_fault, surplus, truncated}
 use Rattle.plan.specs.Timetable.{begins}
-use Rattle.plan.specs.Written.{carries, program, runs, written}
+use Rattle.plan.specs.Written.{a_channel, a_partition, a_slot, written}
 
 -- two partitions with roots 0 and 1, slots of 128 cycles for the second and of another length for the first; left open are its budget,
 -- where the first one starts, and the channels
 abbrev pub like : ℕ → ℕ → ℕ → List Channel → List ℕ
-like budget start length channels = written budget (program 0 start ∷ program 1 0x10000 ∷ []) (runs 0 length ∷ runs 1 128 ∷ []) channels
+like budget start length channels = written budget (a_partition 0 start ∷ a_partition 1 0x10000 ∷ []) (a_slot 0 length ∷ a_slot 1 128 ∷ []) channels
 
 -- the example: its first partition starts at 00010000 too, with a slot of 200 cycles, and the budget is 800
 abbrev pub example : List ℕ
@@ -34,10 +34,10 @@ abbrev pub joined : ℕ → List Channel → List ℕ
 joined budget channels = like budget 0x10000 200 channels
 
 abbrev pub each_way : List Channel
-each_way = carries 0 0 1 0 ∷ carries 1 0 0 0 ∷ []
+each_way = a_channel 0 0 1 0 ∷ a_channel 1 0 0 0 ∷ []
 
 abbrev pub both_out : List Channel
-both_out = carries 0 0 1 0 ∷ carries 0 0 1 0 ∷ []
+both_out = a_channel 0 0 1 0 ∷ a_channel 0 0 1 0 ∷ []
 
 pub record Example : Type 0 where
   pub written_so : example ≡ example_bytes
@@ -57,7 +57,7 @@ pub record Example : Type 0 where
   pub too_short : truncated [] (plan_of []) ≡ Some (Truncated 0)
   pub no_partitions : first (count_fault (plan_of (replicate 7 0)).counts) 3 ≡ Some (CountRange Partitions)
   pub short_slot : first (slot_fault (plan_of (like 800 0x10000 127 []))) 2 ≡ Some (SlotRule 0)
-  pub own_channel : first (channel_fault (plan_of (joined 800 (carries 0 0 0 0 ∷ [])))) 1 ≡ Some (ChannelRule 0)
+  pub own_channel : first (channel_fault (plan_of (joined 800 (a_channel 0 0 0 0 ∷ [])))) 1 ≡ Some (ChannelRule 0)
   pub odd_start : first (start_fault (plan_of (like 800 0x10001 200 []))) 2 ≡ Some (StartMisaligned 0)
   pub too_long : surplus (example ++ 0 ∷ []) (plan_of example) ≡ Some (Surplus 29)
   -- when its slots begin

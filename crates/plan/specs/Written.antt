@@ -31,12 +31,12 @@ written budget partitions slots channels =
     ++ (row_bytes partition_bytes partitions ++ (row_bytes slot_bytes slots ++ row_bytes channel_bytes channels)))
 
 -- one row of each kind: root frame and start address; partition and length; sender, its page, receiver, its page
-abbrev pub program : ℕ → ℕ → Partition
-program root start = record { root = root; start = start }
+abbrev pub a_partition : ℕ → ℕ → Partition
+a_partition root start = record { root = root; start = start }
 
-abbrev pub runs : ℕ → ℕ → Slot
-runs partition length = record { partition = partition; length = length }
+abbrev pub a_slot : ℕ → ℕ → Slot
+a_slot partition length = record { partition = partition; length = length }
 
-abbrev pub carries : ℕ → ℕ → ℕ → ℕ → Channel
-carries sender page receiver receiver_page =
+abbrev pub a_channel : ℕ → ℕ → ℕ → ℕ → Channel
+a_channel sender page receiver receiver_page =
     record { sender = record { partition = sender; page = page }; receiver = record { partition = receiver; page = receiver_page } }
