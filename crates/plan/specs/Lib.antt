@@ -7,4 +7,5 @@ pub mod Switch
 pub mod Rules
 pub mod Lawful
 pub mod Timetable
+pub mod Written
 pub mod Example

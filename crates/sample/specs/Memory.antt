@@ -2,18 +2,16 @@
 -- frames but the tables hold, is left open.
 use Rattle.std.specs.Prelude.{ℕ, ◌+◌, ◌*◌, ◌/◌, ◌%◌, cond, List, [], ◌∷◌, map, ◌==◌}
 use Rattle.std.specs.List.{range_with_len}
+use Rattle.plan.specs.declared.model.Channel.{Channel}
+use Rattle.plan.specs.Written.{a_channel, a_partition, a_slot, written}
 
--- a plan of two partitions that start at 00010000, the first with root 0, slots of 200 and 128 cycles, and a budget of 1,754; left open are
--- the root of the second, and of a channel from page 17 its sender, its receiver and the receiver's page
+-- a plan of two partitions that start at 00010000, the first with root 0, and slots of 200 and 128 cycles; left open are the budget, the root of
+-- the second, and the channels: where there is one, from page 17, its sender, its receiver and the receiver's page
+abbrev pub with_channels : ℕ → ℕ → List Channel → List ℕ
+with_channels budget root channels = written budget (a_partition 0 0x10000 ∷ a_partition root 0x10000 ∷ []) (a_slot 0 200 ∷ a_slot 1 128 ∷ []) channels
+
 abbrev pub planned : ℕ → ℕ → ℕ → ℕ → List ℕ
-planned root sender receiver page =
-    2 ∷ 2 ∷ 1 ∷ 0xda ∷ 6 ∷ 0 ∷ 0
-    ∷ 0 ∷ 0 ∷ 0 ∷ 0 ∷ 1 ∷ 0
-    ∷ root ∷ 0 ∷ 0 ∷ 0 ∷ 1 ∷ 0
-    ∷ 0 ∷ 200 ∷ 0 ∷ 0 ∷ 0
-    ∷ 1 ∷ 128 ∷ 0 ∷ 0 ∷ 0
-    ∷ sender ∷ receiver ∷ 17 ∷ 0 ∷ 0 ∷ 0 ∷ page ∷ 0 ∷ 0 ∷ 0
-    ∷ []
+planned root sender receiver page = with_channels 1754 root (a_channel sender 17 receiver page ∷ [])
 
 -- roots 0 and 3, and a channel from page 17 of the first to page 17 of the second
 abbrev pub two : List ℕ
