@@ -1,6 +1,7 @@
 -- What the code of a slot answers is the slot as it is defined.
 use Rattle.std.proofs.Common.{◌≡◌, ℕ, ◌+◌, ◌-◌, ◌^◌, ◌<◌, true, ltb, List, set, Some, refl, subst, ap, arith}
 use Rattle.std.proofs.lemmas.Bool.{and_from, lt-ltb}
+use Rattle.std.proofs.lemmas.Bool.Decides.{nat_tests}
 use Rattle.hart.specs.declared.step.Core.{Core}
 use Rattle.plan.specs.declared.model.Plan.{Plan}
 use Rattle.plan.specs.declared.model.Slot.{Slot}
@@ -16,6 +17,9 @@ use Rattle.kernel.specs.Switch.{delivered}
 pub can : (p : Plan) (m : Machine) (slot : Slot) → slot ≡ coming p m → slot.partition < 8 → m.turn + 1 < 2 ^ 32 → m.clock < 2 ^ 63 → can_run p m ≡ true
 can p m slot e a b c =
     and_from (ltb (who_runs p m) 8) _ (lt-ltb (who_runs p m) 8 (subst (λ (s : Slot). s.partition < 8) e a)) (and_from (ltb (m.turn + 1) (2 ^ 32)) (ltb m.clock (2 ^ 63)) (lt-ltb (m.turn + 1) (2 ^ 32) b) (lt-ltb m.clock (2 ^ 63) c))
+
+pub clock_below : (p : Plan) (m : Machine) → can_run p m ≡ true → m.clock < 2 ^ 63
+clock_below p m e = grind (arith, nat_tests, e)
 
 -- the steps of the slot, by the slot and the core that the code has made
 pub same_end : (p : Plan) (m : Machine) (ws : List ℕ) (slot : Slot) (core : Core) (stop : ℕ) → slot ≡ coming p m → core ≡ core_for p m slot.partition → stop ≡ m.clock + slot.length →
