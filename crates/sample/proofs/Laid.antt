@@ -2,11 +2,12 @@
 use Rattle.std.proofs.Common.{◌≡◌, ℕ, zero, suc, ◌+◌, ◌*◌, ◌/◌, ◌%◌, ◌<◌, ◌≤◌, true, false, ◌≢◌, ◌⊎◌, length, sym, refl, ap, ◌∙◌, subst, arith}
 use Rattle.std.proofs.lemmas.List.FromFn.{get_or-map-range_with_len, length-map-range_with_len}
 use Rattle.std.proofs.lemmas.Bool.{eq-eqb, ne_eqb, true≢false}
-use Rattle.words.specs.First.{count, first, most}
+use Rattle.words.specs.First.{first, most}
 use Rattle.words.specs.Frames.{word}
 use Rattle.paging.specs.Entries.{flag}
 use Rattle.paging.specs.Mapping.{InMemory, Pointer}
 use Rattle.paging.specs.Tables.{KernelFrame, Names}
+use Rattle.plan.specs.Switch.{messages}
 use Rattle.plan.specs.Format.{plan_of, rows}
 use Rattle.plan.specs.Lawful.{PlanLawful}
 use Rattle.plan.proofs.Decides.{kept_lawful}
@@ -17,7 +18,7 @@ use Rattle.sample.proofs.Entries.{pointer, reads_leaf, runs_leaf, writes_leaf}
 use Rattle.sample.proofs.Tables.{its_form, its_frames, its_kernel, leads_16, leads_17, names_a}
 
 pub plan_lawful : PlanLawful two
-unfolding first count most plan_of rows
+unfolding first most messages plan_of rows
 plan_lawful = kept_lawful two refl refl refl refl refl refl refl
 
 own_root : (j : ℕ) → j < 1 → root (plan_of two) j ≢ 3

@@ -1,11 +1,12 @@
 -- The sample's plan without its channel, or with two, and what the checker answers.
 use Rattle.std.proofs.Common.{◌≡◌, ℕ, zero, suc, ◌/◌, ◌<◌, ◌≤◌, true, List, length, Some, None, Err, add-zero, sym, refl, ap, ◌∙◌, subst, inl, inr, arith}
 use Rattle.std.proofs.lemmas.Bool.{ne_eqb, true≢false}
-use Rattle.words.specs.First.{count, first, most}
+use Rattle.words.specs.First.{first, most}
 use Rattle.words.specs.Bytes.{number}
 use Rattle.words.specs.Frames.{word}
 use Rattle.words.proofs.First.{below_none, first_more, first_none, first_stays}
 use Rattle.paging.specs.Entries.{flag, is_valid}
+use Rattle.plan.specs.Switch.{messages}
 use Rattle.plan.specs.declared.refusal.Refusal.{Refusal}
 use Rattle.plan.specs.declared.refusal.Refusal.TheVariants.{ChannelPage, FrameShared, FramesMissing, TableMalformed}
 use Rattle.plan.specs.Format.{plan_of, rows}
@@ -28,7 +29,7 @@ use Rattle.sample.proofs.Refused.{apart_0, both_name, here_tabled, mailbox_missi
 use Rattle.sample.proofs.Tables.{not_valid}
 
 refused_forked : (ws : List ℕ) (e : Refusal) → faults forked ws ≡ Some e → checked forked ws ≡ Err e
-unfolding first count most plan_of rows
+unfolding first most messages plan_of rows
 refused_forked ws e = refused forked ws refl refl refl refl refl refl refl e
 
 root_second : (r : ℕ) → number (in_bytes 2 r) 0 2 ≡ r → root (plan_of (unjoined r)) 1 ≡ r
@@ -38,7 +39,7 @@ root_second r e = e
 -- without a channel, the rules on page tables and what they share decide
 module _ (r : ℕ) (ws : List ℕ) (is : root (plan_of (unjoined r)) 1 ≡ r) where
   refused_unjoined : (e : Refusal) → faults (unjoined r) ws ≡ Some e → checked (unjoined r) ws ≡ Err e
-  unfolding first count most plan_of rows
+  unfolding first most messages plan_of rows
   refused_unjoined e = refused (unjoined r) ws refl refl refl refl refl refl refl e
 
   no_pages : first (ends_refusal ws (plan_of (unjoined r))) (plan_of (unjoined r)).counts.channels ≡ None

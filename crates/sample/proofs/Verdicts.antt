@@ -1,8 +1,8 @@
 -- The sample is accepted in every layout that fits.
 use Rattle.std.proofs.Common.{◌≡◌, ℕ, zero, suc, ◌<◌, ◌≢◌, ◌⊎◌, get_or, sym, refl, ◌∙◌, inl, inr, arith}
-use Rattle.words.specs.First.{count, first, most}
+use Rattle.words.specs.First.{first, most}
 use Rattle.plan.specs.Format.{plan_of, rows}
-use Rattle.plan.specs.Rules.{ample}
+use Rattle.plan.specs.Switch.{messages, required_budget}
 use Rattle.plan.proofs.Rows.{rows_at}
 use Rattle.checker.specs.Checked.{accepted}
 use Rattle.checker.specs.Found.{Lawful}
@@ -109,8 +109,8 @@ there_fits = record {
   mailbox_apart = λ e. omega arith;
 }
 
-pub budget : ample (plan_of two) ≡ 1754
-unfolding first count most plan_of rows
+pub budget : required_budget (plan_of two) ≡ 1754
+unfolding first most messages plan_of rows
 budget = refl
 
 pub examples : Examples

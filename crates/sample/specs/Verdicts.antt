@@ -4,7 +4,7 @@ use Rattle.words.specs.Frames.{word}
 use Rattle.paging.specs.Tables.{Owns}
 use Rattle.plan.specs.declared.refusal.Refusal.TheVariants.{ChannelPage, FrameShared, FramesMissing, RootRule, TableMalformed}
 use Rattle.plan.specs.Format.{plan_of}
-use Rattle.plan.specs.Rules.{ample}
+use Rattle.plan.specs.Switch.{required_budget}
 use Rattle.plan.specs.Written.{a_channel}
 use Rattle.checker.specs.Checked.{accepted, checked}
 use Rattle.checker.specs.Pages.{ends_at}
@@ -40,9 +40,9 @@ here = record { table = 4; code = 5; mailbox = 7; frames = 8 }
 abbrev pub there : Layout
 there = record { table = 5; code = 4; mailbox = 8; frames = 9 }
 
--- and the plan's budget is the least that is ample
+-- and the plan's budget is the least that its switches need
 pub record Examples : Type 0 where
-  pub budget : ample (plan_of two) ≡ 1754
+  pub budget : required_budget (plan_of two) ≡ 1754
   pub one : (content : ℕ → ℕ → ℕ) → Stands here content
   pub other : (content : ℕ → ℕ → ℕ) → Stands there content
 

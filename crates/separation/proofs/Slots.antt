@@ -20,7 +20,7 @@ use Rattle.checker.specs.declared.Accepted.{Accepted}
 use Rattle.checker.specs.Found.{Behind}
 use Rattle.checker.specs.Lawful.{root}
 use Rattle.hart.specs.Execution.{fresh}
-use Rattle.kernel.specs.Machine.{System, after_slot, can_run, coming, context_of, ended, entered, inside_after, slot_end, slot_ran, }
+use Rattle.kernel.specs.Machine.{System, after_slot, can_run, coming, context_of, ended, entered, inside_after, slot_end, slot_ran}
 use Rattle.kernel.specs.Shim.{until}
 use Rattle.kernel.specs.Switch.{ends_of, switch_work}
 use Rattle.kernel.proofs.Running.{until_least, until_most}

@@ -11,7 +11,6 @@ use Rattle.kernel.specs.Reports.{slot_report}
 use Rattle.separation.specs.declared.supervisor.Supervisor.{Supervisor}
 use Rattle.separation.specs.declared.run.Finished.{Finished}
 use Rattle.separation.specs.Agreement.{Agree, In, SameReport, SameWords, StepByStep, Unseen}
-
 use Rattle.separation.specs.Promises.{SlotPromises}
 use Rattle.separation.specs.Running.{BeforeSlot, Running}
 

@@ -78,13 +78,13 @@ pub record GoesOn (stop : ℕ) (x y : Inside) : Type 0 where
 -- the tables in their first state. It goes on step by step, and what it has at the slot's end it keeps
 pub record Executes (a : Accepted) (s t : System) : Type 0 where
   pub resumes : inside_after a.plan s 0 ≡ record {
-      who = runs a s;
-      now = record {
-        core = record { context = begun (context_of s.machine (runs a s)); tables = first_tables; root = root a.plan (runs a s); clock = s.machine.clock };
-        words = s.words;
-        instructions = 0;
-      };
-    }
+    who = runs a s;
+    now = record {
+      core = record { context = begun (context_of s.machine (runs a s)); tables = first_tables; root = root a.plan (runs a s); clock = s.machine.clock };
+      words = s.words;
+      instructions = 0;
+    };
+  }
   pub goes_on : (n : ℕ) → GoesOn (slot_end a.plan s.machine) (inside_after a.plan s n) (inside_after a.plan s (n + 1))
   pub keeps : context_of t.machine (ended a.plan s).who ≡ (ended a.plan s).now.core.context
 

@@ -12,7 +12,7 @@ use Rattle.kernel.proofs.machine.Machine.run_slot.Goals as goal
 ran : (x : Moment) (a b : Core) (ws : List ℕ) (stop end : ℕ) → x ≡ until stop (stop - a.clock) (moment a ws 0) → a ≡ b → stop ≡ end → x ≡ until end (end - b.clock) (moment b ws 0)
 ran x a b ws stop end e d f = e ∙ ap (λ core. until stop (stop - core.clock) (moment core ws 0)) d ∙ ap (λ n. until n (n - b.clock) (moment b ws 0)) f
 
-below : (x : Moment) (m : Machine) (core : Core) (ws : List ℕ) (length : ℕ) → m.clock < 2 ^ 63 → length < 2 ^ 32 → core.clock ≡ m.clock → 
+below : (x : Moment) (m : Machine) (core : Core) (ws : List ℕ) (length : ℕ) → m.clock < 2 ^ 63 → length < 2 ^ 32 → core.clock ≡ m.clock →
     x ≡ until (m.clock + length) (m.clock + length - core.clock) (moment core ws 0) → x.core.clock < 2 ^ 63 + 2 ^ 33
 below x m core ws length small short at e =
     omega (arith, ap (λ (x : Moment). x.core.clock) e, until_most (m.clock + length) (omega arith) (m.clock + length - core.clock) (moment core ws 0) (omega arith))
