@@ -7,7 +7,12 @@ use Rattle.isa.specs.declared.instruction.Condition.{Condition}
 use Rattle.isa.specs.declared.instruction.LoadWidth.{LoadWidth}
 use Rattle.isa.specs.declared.instruction.StoreWidth.{StoreWidth}
 use Rattle.isa.specs.declared.instruction.Counter.{Counter}
-use Rattle.isa.specs.Tables.{numbered, Listed, condition_number, conditions, load_number, loads, store_number, stores, operation_number, operations, funct3_of, funct7_of, constants, shifts, counter_number, counters}
+use Rattle.isa.specs.Tables.{numbered, Listed}
+use Rattle.isa.specs.Operations.{operation_number, operations, funct3_of, funct7_of, constants, shifts}
+use Rattle.isa.specs.Conditions.{condition_number, conditions}
+use Rattle.isa.specs.Loads.{load_number, loads}
+use Rattle.isa.specs.Stores.{store_number, stores}
+use Rattle.isa.specs.Counters.{counter_number, counters}
 
 -- what follows from a row comes from a row
 pub and_some : {A B : Type 0} (o : Option A) (f : A → Option B) (b : B) → option_and_then f o ≡ Some b → (a : A) × (o ≡ Some a) × (f a ≡ Some b)
@@ -30,20 +35,20 @@ module _ {A : Type 0} (number : A → ℕ) where
 abbrev Row : {A : Type 0} → (A → ℕ) → List A → ℕ → A → Type 0
 Row number rows bound a = Listed number rows a × (number a < bound)
 
-pub condition_row : (c : Condition) → Row condition_number conditions 8 c
-condition_row c = search rules
+pub condition_listed : (c : Condition) → Row condition_number conditions 8 c
+condition_listed c = search rules
 
-pub load_row : (s : LoadWidth) → Row load_number loads 8 s
-load_row s = search rules
+pub load_listed : (s : LoadWidth) → Row load_number loads 8 s
+load_listed s = search rules
 
-pub store_row : (s : StoreWidth) → Row store_number stores 8 s
-store_row s = search rules
+pub store_listed : (s : StoreWidth) → Row store_number stores 8 s
+store_listed s = search rules
 
-pub counter_row : (k : Counter) → Row counter_number counters (2 ^ 12) k
-counter_row k = search rules
+pub counter_listed : (k : Counter) → Row counter_number counters (2 ^ 12) k
+counter_listed k = search rules
 
-pub operation_row : (o : Operation) → Listed operation_number operations o × (funct3_of o < 8) × (funct7_of o < 128)
-operation_row o = search rules
+pub operation_listed : (o : Operation) → Listed operation_number operations o × (funct3_of o < 8) × (funct7_of o < 128)
+operation_listed o = search rules
 
 -- the operations with a constant have funct7 0, and no shift has the funct3 of one of them
 pub plain : (o : Operation) → Listed funct3_of constants o → funct7_of o ≡ 0
