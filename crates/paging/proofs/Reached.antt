@@ -5,11 +5,11 @@ use Rattle.std.proofs.lemmas.Bool.{and_parts, and_from}
 use Rattle.paging.specs.declared.access.Access.{Access}
 use Rattle.paging.specs.declared.access.Access.TheVariants.{Fetch, Load, Store}
 use Rattle.paging.specs.declared.leaf.Leaf.{Leaf}
-use Rattle.paging.specs.declared.translate.PageFault.{PageFault}
-use Rattle.paging.specs.declared.translate.Place.{Place}
-use Rattle.paging.specs.Accesses.{page_fault, permitted, place_in}
+use Rattle.paging.specs.declared.place.Place.{Place}
+use Rattle.paging.specs.Accesses.{PageFault, page_fault, permitted, place_in}
 use Rattle.paging.specs.Walks.{then_place, translated, walked}
 use Rattle.paging.specs.Mapping.{Allows, Reaches, Translates}
+use Rattle.paging.specs.Laws.{TranslationsReach}
 use Rattle.paging.proofs.Found.{maps_walk, walk_maps}
 
 pub permitted_tells : (leaf : Leaf) (access : Access) → Decides (permitted leaf access) (Allows leaf access)
@@ -66,3 +66,6 @@ module _ (ws : List ℕ) (root address : ℕ) (access : Access) where
 
   pub translates : (answer : Result Place PageFault) → answer ≡ translated ws root address access → Translates ws root address access answer
   translates answer is = rw is (record { reaches = reaches; placed = placed; faults = faults })
+
+pub translations_reach : TranslationsReach
+translations_reach ws root address access = translates ws root address access (translated ws root address access) refl
