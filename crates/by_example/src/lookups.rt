@@ -1,7 +1,7 @@
 // Rows of uses of the three tables, with the cycles that each has to cost.
-use crate::layout::lay_out;
 use paging::access::Access;
-use paging::translate::Place;
+use paging::place::Place;
+use rv32ui::memory::{add_page, lay_out};
 use tables::Tables;
 use tables::cache::Cache;
 use tables::predictor::Predictor;
@@ -63,10 +63,12 @@ fn every_line_dirty(rt: HostRuntime) {
     }
 }
 
-// Root in frame 0, table in frame 1: page 17 maps to frame 2 with R and W, page 33 to frame 3 with R. Both have entry 1 of the TLB.
+// The small memory, but page 17 maps to frame 2 with R and W, and page 33 to frame 3 with R. Both have entry 1 of the TLB.
 fn memory() -> [u32; 4096] {
     let mut words = [0; 4096];
-    lay_out(&mut words, &[(17, 0x8D7), (33, 0xCD3)]);
+    lay_out(&mut words);
+    add_page(&mut words, 17, 0x8D7);
+    add_page(&mut words, 33, 0xCD3);
     words
 }
 

@@ -1,6 +1,7 @@
 -- What a run of words leaves on the machine of the vectors.
-use Rattle.std.specs.Prelude.{◌≡◌, ℕ, List, replicate, cond, Option, Some, None, is_some}
-use Rattle.rv32ui.specs.Memory.{laid_out, put_at}
+use Rattle.std.specs.Prelude.{◌≡◌, ℕ, List, cond, Option, Some, None, is_some}
+use Rattle.paging.specs.Small.{mapped_in, with_page}
+use Rattle.rv32ui.specs.Memory.{put_at}
 use Rattle.isa.specs.Registers.{held, register}
 use Rattle.hart.specs.declared.context.State.{State}
 use Rattle.hart.specs.declared.context.State.TheVariants.{Ready, Stopped}
@@ -14,9 +15,9 @@ use Rattle.conformance.specs.declared.machine.Machine.{Machine}
 abbrev pub moment_of : Machine → Moment
 moment_of m = record { core = m.core; words = m.words }
 
--- a fresh program over five frames, with the page tables and nothing else in them
+-- a fresh program over five frames, with the page tables and nothing else in them: page 18 is frame 4 with R and W, page 19 the code once more
 abbrev pub at_first : Moment
-at_first = record { core = first_core 0 0x10000; words = laid_out (replicate 5120 0) }
+at_first = record { core = first_core 0 0x10000; words = with_page (with_page (mapped_in 5120) 18 0x10D7) 19 0x8DB }
 
 -- the counter elsewhere
 abbrev pub at_counter : ℕ → Moment → Moment

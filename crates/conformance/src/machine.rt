@@ -9,7 +9,7 @@ use hart::context::State;
 use hart::step::Core;
 use isa::decoder::Decoder;
 use isa::register::Register;
-use rv32ui::memory::{CODE, CODE_FRAME, DATA_FRAME, MEMORY_WORDS, lay_out, put};
+use rv32ui::memory::{CODE, CODE_FRAME, DATA_FRAME, MEMORY_WORDS, add_page, lay_out, put};
 use rv32ui::runner::Runner;
 
 #[derive(Drop)]
@@ -26,6 +26,9 @@ impl Machine {
     {
         let mut words = [0; MEMORY_WORDS];
         lay_out(&mut words);
+        // page 18 is the data of frame 4, and page 19 is the code once more
+        add_page(&mut words, 18, 0x0000_10d7);
+        add_page(&mut words, 19, 0x0000_08db);
         Machine {
             core: Core::new(0, CODE),
             words,

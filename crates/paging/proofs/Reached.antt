@@ -1,9 +1,7 @@
 -- A translation answers the place that the access reaches.
-use Rattle.std.proofs.Common.{◌≡◌, ℕ, ◌/◌, ◌%◌, Bool, true, false, cond, List, Some, None, Ok, Err, Decides, Option, Result, sym, refl, ap, subst, arith}
+use Rattle.std.proofs.Common.{rules, ◌≡◌, ℕ, ◌/◌, ◌%◌, Bool, true, false, cond, List, Some, None, Ok, Err, Decides, Option, Result, sym, refl, ap, subst, arith}
 use Rattle.std.proofs.lemmas.Nat.{mod_below}
-use Rattle.std.proofs.lemmas.Bool.{and_parts, and_from}
 use Rattle.paging.specs.declared.access.Access.{Access}
-use Rattle.paging.specs.declared.access.Access.TheVariants.{Fetch, Load, Store}
 use Rattle.paging.specs.declared.leaf.Leaf.{Leaf}
 use Rattle.paging.specs.declared.place.Place.{Place}
 use Rattle.paging.specs.Accesses.{PageFault, page_fault, permitted, place_in}
@@ -13,19 +11,15 @@ use Rattle.paging.specs.Laws.{TranslationsReach}
 use Rattle.paging.proofs.Found.{maps_walk, walk_maps}
 
 pub permitted_tells : (leaf : Leaf) (access : Access) → Decides (permitted leaf access) (Allows leaf access)
-permitted_tells leaf Fetch = ((λ e. e), λ e. e)
-permitted_tells leaf Load = ((λ e. e), λ e. e)
-permitted_tells leaf Store = (and_parts leaf.readable leaf.writable, λ e. and_from leaf.readable leaf.writable e.0 e.1)
+permitted_tells leaf access = search rules
 
 -- an answer or a fault, as a test tells
 module _ {X E : Type 0} (x : X) (e : E) where
   tested_ok : (test : Bool) (y : X) → cond test (Ok x) (Err e) ≡ Ok y → (test ≡ true) × (x ≡ y)
-  tested_ok true y h = (refl, cc)
-  tested_ok false y h = (cc, cc)
+  tested_ok test y h = search rules
 
   tested_err : (test : Bool) (d : E) → cond test (Ok x) (Err e) ≡ Err d → e ≡ d
-  tested_err true d h = cc
-  tested_err false d h = cc
+  tested_err test d h = search rules
 
 module _ (address : ℕ) (access : Access) where
   placed_through : (o : Option Leaf) (place : Place) → then_place address access o ≡ Ok place → (leaf : Leaf) × (o ≡ Some leaf) × Allows leaf access × (place_in leaf.frame address ≡ place)
