@@ -1,5 +1,5 @@
 -- Walks and accesses in the small memory.
-use Rattle.std.specs.Prelude.{◌≡◌, ℕ, true, false, List, Some, None, Ok, Err}
+use Rattle.std.specs.Prelude.{◌≡◌, true, false, Some, None, Ok, Err}
 use Rattle.paging.specs.declared.access.Access.TheVariants.{Fetch, Load, Store}
 use Rattle.paging.specs.Accesses.{page_fault}
 use Rattle.paging.specs.Small.{mapped, mapped_in}
