@@ -34,6 +34,7 @@ impl Decoder {
 
     // The instruction of the word at an address of a program, none where it is illegal. It is decoded anew only where another word is
     // remembered for the address and the root: with any of them the answer is the same.
+    #[inline]
     pub fn recall(&mut self, pc: u32, root: u32, word: u32) -> &Option<Instruction>
         ensures answer { result.now ≡ decoded word }
     {
@@ -43,6 +44,7 @@ impl Decoder {
     }
 
     // Sees to it that the word is remembered there.
+    #[inline]
     fn remember(&mut self, at: usize, word: u32)
         requires within { at < 1024 }
         ensures after { self.new ≡ remembered self.old at word }
