@@ -8,3 +8,4 @@ pub mod Encoding
 pub mod Laws
 pub mod Worked
 pub mod Remembered
+pub mod Effects

@@ -7,6 +7,9 @@ use super::{Decoder, ENTRIES, Known};
 use crate::decode::decode;
 use crate::instruction::Instruction;
 
+// So far apart the places for one program are from those for the next: 273 of the 1,024 for each frame between their roots.
+const APART: u32 = 1092;
+
 // A constructor and no `From`: it decodes.
 impl Known {
     #[tactic(auto, using(crate::proofs::Recalling::one_known))]
@@ -29,15 +32,20 @@ impl Decoder {
         }
     }
 
-    // The instruction of a word, none where it is illegal. It is decoded anew only where the place of the number has another word: any number will do.
-    pub fn recall(&mut self, number: u32, word: u32) -> &Option<Instruction>
+    // The instruction of a word, none where it is illegal. It is decoded anew only where its place has another word.
+    // The place is told by the address that the word was fetched from and by the root of the program's page table: programs that run in turns
+    // use the same addresses.
+    #[inline]
+    pub fn recall(&mut self, pc: u32, root: u32, word: u32) -> &Option<Instruction>
         ensures answer { result.now ≡ decoded word }
     {
+        let number = pc.wrapping_add(root.wrapping_mul(APART));
         self.remember(number, word);
         &self.known[place_of(number)].instruction
     }
 
     // Sees to it that the place of the number has the word.
+    #[inline]
     fn remember(&mut self, number: u32, word: u32)
         ensures after { self.new ≡ remembered self.old number word }
         ensures word { (slice_index_or self.new.known (place_of number) (known 0)).word ≡ word }
