@@ -11,7 +11,7 @@ use Rattle.plan.specs.declared.refusal.Count.TheVariants.{Partitions, Slots, Cha
 use Rattle.plan.specs.declared.refusal.Refusal.{Refusal}
 use Rattle.plan.specs.declared.refusal.Refusal.TheVariants.{Truncated, CountRange, SlotRule, ChannelRule, ChannelPage, RootRule, TableMalformed, FrameShared, StartMisaligned, BudgetRule, FramesMissing, Surplus}
 use Rattle.plan.specs.Format.{plan_of}
-use Rattle.plan.specs.Refused.{AllRanked, Named, RankTells, Ranked, count_at, count_place, number_of, place_in, place_of, rank, refusal, turns}
+use Rattle.plan.specs.Refused.{AllRanked, Named, RankTells, Ranked, count_at, count_place, number_of, index_in, place_of, rank, refusal, turns}
 use Rattle.plan.specs.Rules.{ample, broken_unless, budget_fault, budget_kept, channel_fault, channel_kept, channels_out, count_fault, count_kept, slot_fault, slot_kept, start_fault, start_kept, surplus, truncated}
 use Rattle.plan.specs.Lawful.{BudgetFits, ChannelFits, CountFits, PlanLawful, SlotFits, StartFits}
 
@@ -40,7 +40,7 @@ named FramesMissing = refl
 named (Surplus at) = refl
 
 pub all_ranked : AllRanked
-unfolding place_in
+unfolding index_in
 all_ranked (Truncated at) = record { some = omega arith; asked = refl }
 all_ranked (CountRange c) = record { some = omega arith; asked = refl }
 all_ranked (SlotRule k) = record { some = omega arith; asked = refl }
