@@ -3,7 +3,7 @@ use Rattle.std.proofs.Common.{◌≡◌, ℕ, zero, suc, ◌<◌, false, true, �
 use Rattle.std.proofs.lemmas.Bool.{true≢false}
 use Rattle.std.specs.Option.{option_or}
 use Rattle.words.specs.First.{any, count, first, most}
-use Rattle.words.proofs.First.{below_none}
+use Rattle.words.proofs.First.{below_none, first_more, first_none}
 use Rattle.paging.specs.Tables.{KernelFrame, Names}
 use Rattle.plan.specs.declared.model.Channel.{Channel}
 use Rattle.plan.specs.declared.model.Plan.{Plan}
@@ -26,7 +26,7 @@ use Rattle.sample.proofs.Verdicts.{all_lent, here_fits, none_shared, spread}
 
 -- a plan of two partitions, with the sample's roots
 record Rooted (p : Plan) : Type 0 where
-  pub two : p.counts.partitions ≡ 2
+  pub both : p.counts.partitions ≡ 2
   pub roots : (k : ℕ) → k < 2 → root p k ≡ root (plan_of two) k
 
 two_partitions : (plan_of two).counts.partitions ≡ 2
@@ -43,10 +43,10 @@ own bytes =
 module _ (content : ℕ → ℕ → ℕ) (bytes : List ℕ) (is : Rooted (plan_of bytes))
     (pages : first (ends_refusal (memory here content) (plan_of bytes)) (plan_of bytes).counts.channels ≡ None) where
   in_two : (k : ℕ) → k < (plan_of bytes).counts.partitions → k < (plan_of two).counts.partitions
-  in_two k l = omega (arith, l, is.two, two_partitions)
+  in_two k l = omega (arith, l, is.both, two_partitions)
 
   same : (k : ℕ) → k < (plan_of bytes).counts.partitions → root (plan_of bytes) k ≡ root (plan_of two) k
-  same k l = is.roots k (omega (arith, l, is.two))
+  same k l = is.roots k (omega (arith, l, is.both))
 
   root_fits : (k : ℕ) → k < (plan_of bytes).counts.partitions → RootFits (memory here content) (plan_of bytes) k
   root_fits k l =
@@ -99,25 +99,34 @@ longer (suc (suc k)) l = absurd (omega arith)
 
 laid_rooted : (budget start length : ℕ) (channels : List Channel) → Rooted (plan_of (laid budget 3 start length channels))
 unfolding plan_of
-laid_rooted budget start length channels = record { two = refl; roots = rooted budget start length channels }
+laid_rooted budget start length channels = record { both = refl; roots = rooted budget start length channels }
 
 longer_rooted : Rooted (plan_of (plan_with 800 [] ++ 0 ∷ []))
 unfolding plan_of
-longer_rooted = record { two = refl; roots = longer }
+longer_rooted = record { both = refl; roots = longer }
 
 -- two channels that join frames of their own
-two_apart : (ws : List ℕ) (p : Plan) (a b : Ends) → p.counts.channels ≡ 2 → Joins ws p 0 a → Joins ws p 1 b → touch b a ≡ false → first (ends_refusal ws p) p.counts.channels ≡ None
-unfolding first any ends_fault meets
-two_apart ws p a b many one other apart = rw (many, joins_behind ws p 0 a one, joins_behind ws p 1 b other, joins_behind ws p 0 a one, apart) refl
+module _ (ws : List ℕ) (p : Plan) (a : Ends) (one : Joins ws p 0 a) where
+  first_joins : ends_refusal ws p 0 ≡ None
+  unfolding any ends_fault
+  first_joins = rw (joins_behind ws p 0 a one) refl
+
+  second_joins : (b : Ends) → Joins ws p 1 b → touch b a ≡ false → ends_refusal ws p 1 ≡ None
+  unfolding any ends_fault meets
+  second_joins b other apart = rw (joins_behind ws p 1 b other) (rw (joins_behind ws p 0 a one, apart) refl)
+
+  two_apart : (b : Ends) → p.counts.channels ≡ 2 → Joins ws p 1 b → touch b a ≡ false → first (ends_refusal ws p) p.counts.channels ≡ None
+  two_apart b many other apart = subst (λ n. first (ends_refusal ws p) n ≡ None) (sym many) (first_more (ends_refusal ws p) 1 (first_more (ends_refusal ws p) 0 (first_none (ends_refusal ws p)) first_joins) (second_joins b other apart))
 
 module _ (content : ℕ → ℕ → ℕ) (budget : ℕ) where
   each_way_pages : first (ends_refusal (memory here content) (plan_of (plan_with budget each_way))) (plan_of (plan_with budget each_way)).counts.channels ≡ None
   unfolding plan_of rows
-  each_way_pages = two_apart (memory here content) (plan_of (plan_with budget each_way)) (record { sender = 6; receiver = 7 }) (record { sender = 5; receiver = 2 }) refl
+  each_way_pages = two_apart (memory here content) (plan_of (plan_with budget each_way)) (record { sender = 6; receiver = 7 })
       (record {
         sender = record { leaf = _; leads = leads_first_17 here content (omega arith); readable = refl; not_writable = λ e. absurd (true≢false (sym e)); frame_is = refl };
         receiver = record { leaf = _; leads = leads_second_17 here content here_tabled; readable = refl; not_writable = λ e. refl; frame_is = refl };
       })
+      (record { sender = 5; receiver = 2 }) refl
       (record {
         sender = record { leaf = _; leads = leads_second_16 here content here_tabled (omega arith); readable = refl; not_writable = λ e. refl; frame_is = refl };
         receiver = record { leaf = _; leads = leads_first_16 here content (omega arith); readable = refl; not_writable = λ e. refl; frame_is = refl };
@@ -126,11 +135,12 @@ module _ (content : ℕ → ℕ → ℕ) (budget : ℕ) where
 
   both_out_pages : first (ends_refusal (memory here content) (plan_of (plan_with budget both_out))) (plan_of (plan_with budget both_out)).counts.channels ≡ None
   unfolding plan_of rows
-  both_out_pages = two_apart (memory here content) (plan_of (plan_with budget both_out)) (record { sender = 6; receiver = 7 }) (record { sender = 2; receiver = 5 }) refl
+  both_out_pages = two_apart (memory here content) (plan_of (plan_with budget both_out)) (record { sender = 6; receiver = 7 })
       (record {
         sender = record { leaf = _; leads = leads_first_17 here content (omega arith); readable = refl; not_writable = λ e. absurd (true≢false (sym e)); frame_is = refl };
         receiver = record { leaf = _; leads = leads_second_17 here content here_tabled; readable = refl; not_writable = λ e. refl; frame_is = refl };
       })
+      (record { sender = 2; receiver = 5 }) refl
       (record {
         sender = record { leaf = _; leads = leads_first_16 here content (omega arith); readable = refl; not_writable = λ e. refl; frame_is = refl };
         receiver = record { leaf = _; leads = leads_second_16 here content here_tabled (omega arith); readable = refl; not_writable = λ e. refl; frame_is = refl };
