@@ -1,9 +1,10 @@
-// The parser at the edges of each rule, and turns, by example.
+// The checker at the edges of each rule that a plan keeps by itself, and turns, by example.
 use crate::layout::refused;
+use checker::check;
 use plan::model::Plan;
-use plan::rules::parse;
-use plan::timetable::Turn;
+use std::alloc::{AllocError, Global};
 use std::test::Fail;
+use words::frames::write;
 
 // two partitions, slots of 128 and 1,000,000 cycles, a channel from 0 to 1, and the least budget that is ample with it, 1,754
 const PLAN: [u8; 39] = [
@@ -15,9 +16,25 @@ const PLAN: [u8; 39] = [
     0, 1, 17, 0, 0, 0, 18, 0, 0, 0,
 ];
 
+// A memory with which it keeps the rules on frames: both partitions may write their page 17, and read their page 18.
+fn memory(heap: Global) -> Result<Vec<u32>, AllocError> {
+    let mut words = vec![in heap; 0u32; 8 * 1024]?;
+    for (frame, k, entry) in [
+        (0, 0, 0x0401),
+        (1, 17, 0x18d7),
+        (1, 18, 0x08d3),
+        (3, 0, 0x1001),
+        (4, 17, 0x14d7),
+        (4, 18, 0x1cd3),
+    ] {
+        write(&mut words, frame, k, entry);
+    }
+    Ok(words)
+}
+
 // Number and place of the refusal, none where the plan is accepted.
-fn verdict(bytes: &[u8]) -> Option<(u8, usize)> {
-    refused(parse(bytes))
+fn verdict(bytes: &[u8], words: &[u32]) -> Option<(u8, usize)> {
+    refused(check(bytes, words))
 }
 
 #[derive(Clone, Copy)]
@@ -66,7 +83,8 @@ const CASES: [Case; 33] = [
 ];
 
 #[test]
-fn each_rule_at_its_edges(rt: HostRuntime) {
+fn each_rule_at_its_edges(rt: HostRuntime) -> Result<(), Fail> {
+    let words = memory(rt.alloc())?;
     for case in &CASES {
         let mut bytes = PLAN;
         let Case(Edit(at, value), Edit(also, other), expected) = *case;
@@ -75,23 +93,27 @@ fn each_rule_at_its_edges(rt: HostRuntime) {
         if also != 0 {
             bytes[also] = other;
         }
-        assert_eq!(rt; verdict(&bytes), expected);
+        assert_eq!(rt; verdict(&bytes, &words), expected);
     }
+    Ok(())
 }
 
 #[test]
-fn bytes_too_few_and_too_many(rt: HostRuntime) {
+fn bytes_too_few_and_too_many(rt: HostRuntime) -> Result<(), Fail> {
+    let words = memory(rt.alloc())?;
     // every front of the plan, by its length
     for length in 0..39 {
-        assert_eq!(rt; verdict(&PLAN[0..length]), Some((1, length)));
+        assert_eq!(rt; verdict(&PLAN[0..length], &words), Some((1, length)));
     }
     let mut longer = [0; 40];
     longer[0..39].copy_from_slice(&PLAN);
-    assert_eq!(rt; verdict(&longer), Some((12, 39)));
+    assert_eq!(rt; verdict(&longer, &words), Some((12, 39)));
+    Ok(())
 }
 
 #[test]
-fn counts_past_their_range(rt: HostRuntime) {
+fn counts_past_their_range(rt: HostRuntime) -> Result<(), Fail> {
+    let words = memory(rt.alloc())?;
     for (counts, number, place) in [
         ([9, 64, 16], 2, 0),
         ([8, 65, 16], 2, 1),
@@ -100,18 +122,21 @@ fn counts_past_their_range(rt: HostRuntime) {
     ] {
         let mut bytes = [0; 700];
         bytes[0..3].copy_from_slice(&counts);
-        assert_eq!(rt; verdict(&bytes), Some((number, place)));
+        assert_eq!(rt; verdict(&bytes, &words), Some((number, place)));
     }
+    Ok(())
 }
 
 // one partition, one slot and no channel pass the counts' rule: a slot of 0 cycles is refused then
 #[test]
-fn counts_below_their_range(rt: HostRuntime) {
+fn counts_below_their_range(rt: HostRuntime) -> Result<(), Fail> {
+    let words = memory(rt.alloc())?;
     for (counts, number, place) in [([0, 1, 0], 2, 0), ([1, 0, 0], 2, 1), ([1, 1, 0], 3, 0)] {
         let mut bytes = [0; 18];
         bytes[0..3].copy_from_slice(&counts);
-        assert_eq!(rt; verdict(&bytes), Some((number, place)));
+        assert_eq!(rt; verdict(&bytes, &words), Some((number, place)));
     }
+    Ok(())
 }
 
 // budgets, and whether each is in range and ample with the channel and without it
@@ -130,32 +155,17 @@ fn refused_unless(ample: bool) -> Option<(u8, usize)> {
 }
 
 #[test]
-fn budgets(rt: HostRuntime) {
+fn budgets(rt: HostRuntime) -> Result<(), Fail> {
+    let words = memory(rt.alloc())?;
     for (budget, ample_with, ample_without) in BUDGETS {
         let mut plan = PLAN;
         plan[3..7].copy_from_slice(&budget.to_le_bytes());
-        assert_eq!(rt; verdict(&plan), refused_unless(ample_with));
+        assert_eq!(rt; verdict(&plan, &words), refused_unless(ample_with));
         plan[2] = 0;
-        assert_eq!(rt; verdict(&plan[0..29]), refused_unless(ample_without));
-    }
-}
-
-#[test]
-fn turns_end_before_they_wrap(rt: HostRuntime) -> Result<(), Fail> {
-    let Ok(plan) = parse(&PLAN) else {
-        return Err(Fail::new("refused"));
-    };
-    let second = Turn::first().next(&plan).ok_or("no second turn")?;
-    assert_eq!(rt; (second.number, second.begin), (1, 128 + 1754));
-    assert_eq!(rt; second.slot(&plan).partition, 1);
-    let latest = u64::MAX - (128 + 1754);
-    for (number, begin, comes) in [
-        (0, latest, true),
-        (0, latest + 1, false),
-        (u32::MAX - 1, 0, true),
-        (u32::MAX, 0, false),
-    ] {
-        assert_eq!(rt; Turn { number, begin }.next(&plan).is_some(), comes);
+        assert_eq!(rt;
+            verdict(&plan[0..29], &words),
+            refused_unless(ample_without)
+        );
     }
     Ok(())
 }

@@ -2,14 +2,15 @@
 use Rattle.std.proofs.Common.{refl}
 use Rattle.words.specs.First.{first, count, most}
 use Rattle.plan.specs.Format.{plan_of, rows}
-use Rattle.plan.specs.Rules.{parsed, fault}
 use Rattle.plan.specs.Timetable.{begins}
-use Rattle.plan.specs.Example.{Example}
+use Rattle.plan.specs.Example.{Example, example}
+use Rattle.plan.proofs.Decides.{kept_lawful}
 
 pub worked : Example
-unfolding first count most plan_of rows parsed fault begins
+unfolding first count most plan_of rows begins
 worked = record {
-  accepted = refl;
+  written_so = refl;
+  accepted = kept_lawful example refl refl refl refl refl refl refl;
   first = refl;
   second = refl;
   third = refl;

@@ -4,4 +4,5 @@ pub mod Format
 pub mod Rules
 pub mod Lawful
 pub mod Timetable
+pub mod Written
 pub mod Example

@@ -1,9 +1,8 @@
--- The rules of a plan that need no memory as tests, and the refusal of the first that is broken.
-use Rattle.std.specs.Prelude.{◌≡◌, ℕ, ◌+◌, ◌*◌, ◌%◌, ◌<◌, ◌≤◌, Bool, cond, not, ◌&&◌, List, length, take, Some, None, Option, Result, ◌==◌, nat_le, nat_lt, slice_index_or}
-use Rattle.std.specs.Option.{option_or}
+-- The rules of a plan that need no memory as tests, each with its refusal.
+use Rattle.std.specs.Prelude.{◌≡◌, ℕ, ◌+◌, ◌*◌, ◌%◌, ◌<◌, ◌≤◌, Bool, cond, not, ◌&&◌, List, length, take, Some, None, Option, ◌==◌, nat_le, nat_lt, slice_index_or}
 use Rattle.words.specs.Bytes.{byte}
 use Rattle.words.specs.Costs.{switch, message}
-use Rattle.words.specs.First.{unless, first, count, most}
+use Rattle.words.specs.First.{count, most}
 use Rattle.plan.specs.declared.model.Counts.{Counts}
 use Rattle.plan.specs.declared.model.Partition.{Partition}
 use Rattle.plan.specs.declared.model.Slot.{Slot}
@@ -14,7 +13,7 @@ use Rattle.plan.specs.declared.refusal.Count.TheVariants.{Partitions, Slots, Cha
 use Rattle.plan.specs.declared.refusal.Refusal.{Refusal}
 use Rattle.plan.specs.declared.refusal.Refusal.TheVariants.{Truncated, CountRange, SlotRule, ChannelRule, StartMisaligned, BudgetRule, Surplus}
 use Rattle.plan.specs.Refused.{count_at}
-use Rattle.plan.specs.Format.{plan_of, plan_size, no_partition, no_slot, no_channel}
+use Rattle.plan.specs.Format.{longest, plan_of, plan_size, no_partition, no_slot, no_channel}
 
 abbrev pub partition : Plan → ℕ → Partition
 partition p k = slice_index_or p.partitions k no_partition
@@ -80,29 +79,7 @@ truncated bytes p = broken_unless (nat_le (plan_size p.counts) (length bytes)) (
 abbrev pub surplus : List ℕ → Plan → Option Refusal
 surplus bytes p = broken_unless (nat_le (length bytes) (plan_size p.counts)) (Surplus (plan_size p.counts))
 
--- the rules in their order
-unfoldable pub fault : List ℕ → Plan → Option Refusal
-fault bytes p =
-    option_or (truncated bytes p)
-    (option_or (first (count_fault p.counts) 3)
-    (option_or (first (slot_fault p) p.counts.slots)
-    (option_or (first (channel_fault p) p.counts.channels)
-    (option_or (first (start_fault p) p.counts.partitions)
-    (option_or (budget_fault p) (surplus bytes p))))))
-
--- the refusal of the first broken rule, or the plan that the bytes say
-unfoldable pub parsed : List ℕ → Result Plan Refusal
-parsed bytes = unless (fault bytes (plan_of bytes)) (plan_of bytes)
-
--- the bytes of the longest plan that three counts of a byte can ask for, and one more
-abbrev pub longest : ℕ
-longest = 5363
-
--- so the verdict on a file is that on so many of its bytes
-abbrev pub TellsAll : Type 0
-TellsAll = (bytes : List ℕ) (n : ℕ) → ((i : ℕ) → byte bytes i < 256) → longest ≤ n → parsed (take n bytes) ≡ parsed bytes
-
--- and the plan that a file says, and whether its bytes end too early or too late, is told by so many of its bytes
+-- the plan that a file says, and whether its bytes end too early or too late, is told by so many of its bytes
 pub record FrontTells (bytes : List ℕ) (n : ℕ) : Type 0 where
   pub plan : plan_of (take n bytes) ≡ plan_of bytes
   pub early : truncated (take n bytes) (plan_of bytes) ≡ truncated bytes (plan_of bytes)

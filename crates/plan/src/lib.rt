@@ -1,4 +1,4 @@
-// The plan: its bytes, the rules that it has to keep, and the clock at which each slot begins.
+// The plan: its bytes, the rules that it has to keep by itself, and the clock at which each slot begins.
 #![tactic(auto)]
 
 pub mod ends;

@@ -1,8 +1,7 @@
-// The rules of a plan that need no memory, and the parser, which refuses with the first that is broken.
+// The rules of a plan that need no memory.
 ghost use Rattle.std.specs.Prelude.{◌≡◌};
 ghost use Rattle.words.specs.First.{first, most, unless};
-ghost use Rattle.plan.specs.Rules.{ample, budget_fault, channel, channel_fault, channels_out, count_fault, fault, parsed, partition, slot, slot_fault, start_fault};
-ghost use Rattle.plan.specs.Lawful.{Judges};
+ghost use Rattle.plan.specs.Rules.{ample, budget_fault, channel, channel_fault, channels_out, count_fault, partition, slot, slot_fault, start_fault};
 
 use crate::model::*;
 use crate::refusal::{Count, Refusal};
@@ -150,29 +149,4 @@ impl Plan {
         }
         Ok(())
     }
-
-    // Whether the plan, read from these bytes, keeps every rule that needs no memory, asked in the order of their numbers.
-    #[tactic(auto, unfolding(crate::specs::Rules::fault))]
-    fn check(&self, bytes: &[u8]) -> Result<(), Refusal>
-        ensures { result ≡ unless (fault bytes.now self.now) tt }
-    {
-        self.check_whole(bytes)?;
-        self.counts.check()?;
-        self.check_slots()?;
-        self.check_channels()?;
-        self.check_starts()?;
-        self.check_budget()?;
-        self.check_end(bytes)
-    }
-}
-
-// The plan that the bytes say, or the refusal of the first rule that they break.
-#[tactic(auto, unfolding(crate::specs::Rules::parsed))]
-pub fn parse(bytes: &[u8]) -> Result<Plan, Refusal>
-    ensures value { result ≡ parsed bytes.now }
-    ensures verdict { Judges bytes.now result }
-{
-    let plan = Plan::read(bytes);
-    plan.check(bytes)?;
-    Ok(plan)
 }

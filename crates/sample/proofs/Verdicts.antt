@@ -56,10 +56,10 @@ module _ (l : Layout) (content : ℕ → ℕ → ℕ) (h : Fits l) where
   pub tabled : Tabled l
   tabled = record { enough = h.enough; table = h.table; below = omega (arith, h.table.2, h.few); mailbox = omega (arith, h.mailbox.2, h.few) }
 
-  spread : Spread l
+  pub spread : Spread l
   spread = record { tabled = tabled; code = (h.code.0, h.code.1); mailbox = (h.mailbox.0, h.mailbox.1); code_apart = h.code_apart; mailbox_apart = h.mailbox_apart }
 
-  all_lent : AllLent (memory l content) (plan_of two)
+  pub all_lent : AllLent (memory l content) (plan_of two)
   unfolding plan_of rows
   all_lent zero f g n = elim (named_0 l content h.enough f n) [ inl e ↦ lent_at l content f (omega (arith, h.enough)) | inr e ↦ lent_at l content f (omega (arith, h.enough)) ]
   all_lent (suc zero) f g n = elim (named_1 l content tabled f n) [ inl e ↦ lent_at l content f (omega (arith, h.code.2)) | inr e ↦ lent_at l content f (omega (arith, h.mailbox.2)) ]
