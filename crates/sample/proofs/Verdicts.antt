@@ -88,26 +88,10 @@ pub accepts : Accepts
 accepts l h content = stands l content h
 
 pub here_fits : Fits here
-here_fits = record {
-  few = omega arith;
-  enough = omega arith;
-  table = (omega arith, (λ e. omega arith), omega arith);
-  code = (omega arith, (λ e. omega arith), omega arith);
-  mailbox = (omega arith, (λ e. omega arith), omega arith);
-  code_apart = λ e. omega arith;
-  mailbox_apart = λ e. omega arith;
-}
+here_fits = grind arith
 
 pub there_fits : Fits there
-there_fits = record {
-  few = omega arith;
-  enough = omega arith;
-  table = (omega arith, (λ e. omega arith), omega arith);
-  code = (omega arith, (λ e. omega arith), omega arith);
-  mailbox = (omega arith, (λ e. omega arith), omega arith);
-  code_apart = λ e. omega arith;
-  mailbox_apart = λ e. omega arith;
-}
+there_fits = grind arith
 
 pub budget : ample (plan_of two) ≡ 1754
 unfolding first count most plan_of rows
