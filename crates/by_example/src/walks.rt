@@ -1,9 +1,9 @@
-// Walks and translations with every bit of an entry. Frame 0 is the root, frame 1 the table that its first entry points to, and entry 16 there the leaf of page 16.
-use crate::layout::TO_FRAME_1;
+// Walks with every bit of an entry. Frame 0 is the root, frame 1 the table that its first entry points to, and entry 16 there the leaf of page 16.
 use paging::access::Access;
 use paging::leaf::Leaf;
-use paging::translate::{PageFault, Place, translate};
+use paging::place::PAGE_BYTES;
 use paging::walk::walk;
+use rv32ui::memory::{TO_FRAME_1, add_page};
 use std::test::Fail;
 use words::frames::write;
 
@@ -30,7 +30,7 @@ fn leaf(frame: u32, readable: bool, writable: bool, executable: bool) -> Option<
 fn memory(pointer: u32, leaf: u32) -> [u32; 4096] {
     let mut words = [0; 4096];
     write(&mut words, 0, 0, pointer);
-    write(&mut words, 1, PAGE, leaf);
+    add_page(&mut words, PAGE, leaf);
     words
 }
 
@@ -114,24 +114,20 @@ fn each_permission(rt: HostRuntime) {
             (Access::Load, load),
             (Access::Store, store),
         ] {
-            assert_eq!(rt; translate(&words, 0, 0x10ABC, access).is_ok(), granted);
+            let found = walk(&words, 0, 0x10ABC / PAGE_BYTES);
+            assert_eq!(rt; found.is_some_and(|leaf| leaf.permits(access)), granted);
         }
     }
 }
 
 #[test]
-fn places_and_faults(rt: HostRuntime) {
+fn addresses(rt: HostRuntime) {
     let words = memory(TO_FRAME_1, LEAF);
     for access in [Access::Fetch, Access::Load, Access::Store] {
-        let place = Place {
-            frame: 2,
-            offset: 0xABC,
-        };
-        assert_eq!(rt; translate(&words, 0, 0x10ABC, access), Ok(place));
-        assert_eq!(rt;
-            translate(&words, 0, 0x11ABC, access),
-            Err(PageFault { access })
-        );
+        for (address, granted) in [(0x10ABC, true), (0x11ABC, false)] {
+            let found = walk(&words, 0, address / PAGE_BYTES);
+            assert_eq!(rt; found.is_some_and(|leaf| leaf.permits(access)), granted);
+        }
     }
 }
 

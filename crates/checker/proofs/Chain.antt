@@ -6,17 +6,17 @@ use Rattle.std.specs.Option.{option_or}
 use Rattle.words.specs.First.{first}
 use Rattle.words.proofs.First.{first_is, none_below, or_none, or_some}
 use Rattle.plan.specs.declared.refusal.Refusal.{Refusal}
-use Rattle.plan.specs.Refused.{place_in}
+use Rattle.plan.specs.Refused.{index_in}
 use Rattle.plan.specs.Rules.{broken_unless}
 use Rattle.plan.proofs.Decides.{failed, passed}
 use Rattle.checker.specs.Found.{Earlier}
 
-place_here : (ns : List ℕ) (n m : ℕ) → n ≡ m → place_in (n ∷ ns) m ≡ 0
-unfolding place_in
+place_here : (ns : List ℕ) (n m : ℕ) → n ≡ m → index_in (n ∷ ns) m ≡ 0
+unfolding index_in
 place_here ns n m e = rw (eq-eqb n m e) refl
 
-place_later : (ns : List ℕ) (n m : ℕ) → (n ≡ m → ⊥) → place_in (n ∷ ns) m ≡ suc (place_in ns m)
-unfolding place_in
+place_later : (ns : List ℕ) (n m : ℕ) → (n ≡ m → ⊥) → index_in (n ∷ ns) m ≡ suc (index_in ns m)
+unfolding index_in
 place_later ns n m e = rw (ne_eqb n m e) refl
 
 or_nothing : {X : Type 0} (o : Option X) → option_or o None ≡ o
@@ -31,9 +31,9 @@ module _ {F : Type 0} (rule place : F → ℕ) (says : F → Refusal) (Found : F
 
   -- the answer of the rules with these numbers, asked in this order
   pub record Asked (s : Option Refusal) (ns : List ℕ) : Type 0 where
-    pub kept : s ≡ None → (d : F) → place_in ns (rule d) < length ns → Found d → ⊥
+    pub kept : s ≡ None → (d : F) → index_in ns (rule d) < length ns → Found d → ⊥
     pub broken : (e : Refusal) → s ≡ Some e →
-        (f : F) × (says f ≡ e) × Found f × ((d : F) → place_in ns (rule d) < length ns → Found d → Earlier (λ x. place_in ns (rule x)) place f d)
+        (f : F) × (says f ≡ e) × Found f × ((d : F) → index_in ns (rule d) < length ns → Found d → Earlier (λ x. index_in ns (rule x)) place f d)
 
   nothing : Asked None []
   nothing = record { kept = λ e d l b. omega (arith, l); broken = λ e h. absurd (cc) }

@@ -1,12 +1,12 @@
 -- Each rule is a stage of the chain of rules.
-use Rattle.std.proofs.Common.{◌≡◌, ℕ, ◌<◌, ◌≤◌, Bool, true, false, ◌⊎◌, List, length, Some, None, Decides, Option, sym, refl, ap, ◌∙◌, subst, inl, inr, arith}
+use Rattle.std.proofs.Common.{◌≡◌, ℕ, ◌<◌, Bool, true, false, ◌⊎◌, List, length, Some, None, Decides, Option, sym, refl, ap, ◌∙◌, subst, inl, inr, arith}
 use Rattle.std.proofs.lemmas.Bool.{and_from, and_parts, both_ways, eq-eqb, eqb-true, leb-true, le-leb, lt-ltb, ltb-true, not-true, true≢false}
 use Rattle.std.proofs.lemmas.Bool.Decides.{nat_tests}
 use Rattle.words.specs.First.{any, first}
 use Rattle.words.proofs.First.{all_not, any_here, none_below}
 use Rattle.plan.specs.declared.model.Plan.{Plan}
 use Rattle.plan.specs.declared.refusal.Refusal.{Refusal}
-use Rattle.plan.specs.declared.refusal.Refusal.TheVariants.{Truncated, CountRange, ChannelPage, TableMalformed, BudgetRule, FramesMissing, Surplus}
+use Rattle.plan.specs.declared.refusal.Refusal.TheVariants.{Truncated, ChannelPage, TableMalformed, BudgetRule, FramesMissing, Surplus}
 use Rattle.plan.specs.Format.{plan_of, plan_size}
 use Rattle.plan.specs.Lawful.{ChannelFits, CountFits, SlotFits, StartFits}
 use Rattle.plan.specs.Refused.{count_at, number_of, place_of, refusal}

@@ -1,34 +1,40 @@
 -- What a run of words leaves on the machine of the vectors.
-use Rattle.std.specs.Prelude.{◌≡◌, ℕ, List, replicate, cond, Option, Some, None, is_some}
-use Rattle.rv32ui.specs.Memory.{laid_out, put_at}
+use Rattle.std.specs.Prelude.{◌≡◌, ℕ, List, cond, Option, Some, None, is_some}
+use Rattle.paging.specs.Small.{mapped_in, with_page}
+use Rattle.rv32ui.specs.Memory.{put_at}
 use Rattle.isa.specs.Registers.{held, register}
 use Rattle.hart.specs.declared.context.State.{State}
 use Rattle.hart.specs.declared.context.State.TheVariants.{Ready, Stopped}
 use Rattle.hart.specs.Causes.{cause_number}
 use Rattle.hart.specs.Core.{first_core}
 use Rattle.hart.specs.Execution.{is_ready}
-use Rattle.hart.specs.Moments.{Moment, after}
+use Rattle.hart.specs.Moments.{Moment, after, begin}
 use Rattle.conformance.specs.declared.machine.Machine.{Machine}
 
--- of a machine all but what its decoder remembers, which makes no difference to a step
+-- of a machine all but what its stepper remembers, which makes no difference to a step
 abbrev pub moment_of : Machine → Moment
-moment_of m = record { core = m.core; words = m.words }
+moment_of m = begin m.stepper.core m.words
 
--- a fresh program over five frames, with the page tables and nothing else in them
+-- a machine has come to a moment, whose instructions it does not count
+pub record IsAt (moment : Moment) (m : Machine) : Type 0 where
+  pub core : m.stepper.core ≡ moment.core
+  pub words : m.words ≡ moment.words
+
+-- a fresh program over five frames, with the page tables and nothing else in them: page 18 is frame 4 with R and W, page 19 the code once more
 abbrev pub at_first : Moment
-at_first = record { core = first_core 0 0x10000; words = laid_out (replicate 5120 0) }
+at_first = begin (first_core 0 0x10000) (with_page (with_page (mapped_in 5120) 18 0x10D7) 19 0x8DB)
 
 -- the counter elsewhere
 abbrev pub at_counter : ℕ → Moment → Moment
-at_counter pc m = record { core = record m.core { context = record m.core.context { pc = pc } }; words = m.words }
+at_counter pc m = record m { core = record m.core { context = record m.core.context { pc = pc } } }
 
 -- the words in the frame of the code, from its start on
 abbrev pub with_code : List ℕ → Moment → Moment
-with_code code m = record { core = m.core; words = put_at m.words 2 0 code }
+with_code code m = record m { words = put_at m.words 2 0 code }
 
 -- words in the frame of page 17, from a place on
 abbrev pub with_data : ℕ → List ℕ → Moment → Moment
-with_data at values m = record { core = m.core; words = put_at m.words 3 at values }
+with_data at values m = record m { words = put_at m.words 3 at values }
 
 -- why a program stopped, if it did
 abbrev pub cause_of : State → Option ℕ
@@ -41,5 +47,5 @@ value_in r m = cond (is_ready m.core.context.state) (Some (held m.core.context.r
 
 -- so many instructions from there, and an answer if and only if the program is then ready
 pub record RunsWords (code : List ℕ) (instructions : ℕ) (before now : Machine) (answer : Option Unit) : Type 0 where
-  pub moment : moment_of now ≡ after instructions (with_code code (moment_of before))
-  pub ready : is_some answer ≡ is_ready now.core.context.state
+  pub moment : IsAt (after instructions (with_code code (moment_of before))) now
+  pub ready : is_some answer ≡ is_ready now.stepper.core.context.state

@@ -8,9 +8,11 @@ use Rattle.words.proofs.Signs.{fields_join, signs}
 use Rattle.isa.specs.declared.instruction.LoadWidth.{LoadWidth}
 use Rattle.isa.specs.declared.instruction.LoadWidth.TheVariants.{Byte, Half, Word, ByteUnsigned, HalfUnsigned}
 use Rattle.isa.specs.declared.instruction.StoreWidth.{StoreWidth}
-use Rattle.isa.specs.Meaning.{remainder}
+use Rattle.isa.specs.Integers.{remainder}
 use Rattle.isa.proofs.Complement.{bits_below, signed_of_bits}
-use Rattle.hart.specs.Memory.{loaded, replaced, stored}
+use Rattle.isa.specs.Loads.{loaded}
+use Rattle.isa.specs.Memory.{replaced}
+use Rattle.isa.specs.Stores.{stored}
 use Rattle.hart.specs.Bytes.{LoadsBytes, StoresBytes, byte_of, four_bytes, two_bytes}
 use Rattle.hart.proofs.Replacing.{replaces}
 

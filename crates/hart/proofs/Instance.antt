@@ -8,7 +8,7 @@ use Rattle.paging.specs.Entries.{flag, frame_of, is_valid}
 use Rattle.paging.specs.Mapping.{LeafEntry, Maps, Pointer}
 use Rattle.paging.specs.Tables.{KernelFrame, Names, PointsTo}
 use Rattle.hart.specs.Laws.{SameOwn, TablesApart}
-use Rattle.hart.specs.Mapped.{mapped_in}
+use Rattle.paging.specs.Small.{mapped_in, with_page}
 use Rattle.hart.specs.Example.{Example, five_frames}
 
 not_valid : is_valid 0 ≡ true → ⊥
@@ -21,7 +21,7 @@ unfolding flag
 no_leaf leaf l = true≢false (sym (l.not_write_only (sym l.writable)) ∙ sym l.readable)
 
 abbrev four_words : List ℕ
-four_words = written (mapped_in 5120) 1 18 0x10D5
+four_words = with_page (mapped_in 5120) 18 0x10D5
 
 module _ (c : ℕ) where
   -- the words that are not named above are 0

@@ -3,12 +3,12 @@ use Rattle.std.proofs.Common.{refl}
 use Rattle.paging.specs.Entries.{flag}
 use Rattle.paging.specs.Walks.{walked}
 use Rattle.tables.specs.Tlb.{found, filled}
-use Rattle.hart.specs.Core.{executed, fetch_ran, word_ran, load_ran, store_ran, stepped}
+use Rattle.hart.specs.Core.{data_access, executed, fetch_step, stepped, word_step}
 use Rattle.hart.specs.Clocked.{Clocked}
 use Rattle.hart.specs.Moments.{after}
 
 pub worked : Clocked
-unfolding flag walked found filled executed fetch_ran word_ran load_ran store_ran stepped after
+unfolding flag walked found filled data_access executed fetch_step word_step stepped after
 worked = record {
   first_read = refl;
   load_ends = refl;

@@ -4,24 +4,24 @@ use Rattle.std.proofs.lemmas.List.{get_or-set_other}
 use Rattle.std.proofs.lemmas.Bool.{cases_Bool}
 use Rattle.words.specs.Frames.{word, written}
 use Rattle.isa.specs.declared.instruction.Instruction.{Instruction}
-use Rattle.isa.specs.declared.instruction.LoadWidth.{LoadWidth}
-use Rattle.isa.specs.declared.instruction.StoreWidth.{StoreWidth}
-use Rattle.isa.specs.declared.register.Register.{Register}
 use Rattle.isa.specs.Decoding.{decoded}
+use Rattle.isa.specs.Effects.{Effect, sets, jumps, branches, loads, stores, effect_of}
+use Rattle.paging.specs.declared.access.Access.{Access}
+use Rattle.paging.specs.Mapping.{Reaches}
 use Rattle.paging.specs.declared.access.Access.TheVariants.{Fetch, Load, Store}
-use Rattle.paging.specs.declared.translate.PageFault.{PageFault}
-use Rattle.paging.specs.declared.translate.Place.{Place}
+use Rattle.paging.specs.Accesses.{PageFault}
+use Rattle.paging.specs.declared.place.Place.{Place}
 use Rattle.paging.specs.Tables.{Names}
 use Rattle.paging.specs.Walks.{translated}
 use Rattle.paging.proofs.Agree.{leaves_named}
 use Rattle.paging.proofs.Reached.{translates}
 use Rattle.hart.specs.declared.context.State.{State}
 use Rattle.hart.specs.declared.context.State.TheVariants.{Ready, Stopped}
-use Rattle.hart.specs.declared.context.Context.{Context}
-use Rattle.hart.specs.Memory.{is_aligned, load_bytes, store_bytes, stored}
-use Rattle.hart.specs.Execution.{Doing, sets, jumps, branches, loads, stores, doing}
+use Rattle.hart.specs.declared.step.Core.{Core}
+use Rattle.isa.specs.Memory.{is_aligned}
+use Rattle.isa.specs.Stores.{stored}
 use Rattle.hart.specs.Core.{stepped}
-use Rattle.hart.specs.Architecture.{architecture, does, fetch_does, instruction_does, load_does, program_does, store_does, word_at}
+use Rattle.hart.specs.Architecture.{Outcome, access_does, architecture, does, fetch_does, instruction_does, load_at, place_does, program_does, store_at, word_at}
 use Rattle.hart.specs.Laws.{StoredOwn, WritesOwn}
 use Rattle.hart.proofs.Agreeing.{agreement}
 
@@ -35,62 +35,57 @@ stored_elsewhere ws vs root s frame k foreign l =
 abbrev Few : List ℕ → ℕ → List ℕ → Type 0
 Few ws root vs = (vs ≡ ws) ⊎ StoredOwn ws vs root
 
-module _ (x : Context) (ws : List ℕ) (root : ℕ) where
-  load_few : (width : LoadWidth) (rd : Register) (address : ℕ) (found : Result Place PageFault) → Few ws root (load_does x ws width rd address found).words
-  load_few width rd address (Ok place) = inl refl
-  load_few width rd address (Err fault) = inl refl
+module _ (core : Core) (ws : List ℕ) where
+  -- an access, whose place a page of the root leads to
+  place_few : (access : Access) (address : ℕ) (at : Place → Outcome) → ((place : Place) → Reaches ws core.root address access place → Few ws core.root (at place).words) →
+      (found : Result Place PageFault) → found ≡ translated ws core.root address access → Few ws core.root (place_does core.context ws access at found).words
+  place_few access address at few (Ok place) e = few place ((translates ws core.root address access (Ok place) e).reaches place refl)
+  place_few access address at few (Err fault) e = inl refl
 
-  store_few : (width : StoreWidth) (address value : ℕ) (found : Result Place PageFault) → found ≡ translated ws root address Store →
-      Few ws root (store_does x ws width address value found).words
-  store_few width address value (Ok place) e =
-      let r = (translates ws root address Store (Ok place) e).reaches place refl in
-      inr (record {
-        page = r.page;
-        leaf = r.leaf;
-        offset = place.offset / 4;
-        value = stored width (word_at ws place) address value;
-        maps = r.maps;
-        readable = r.allows.0;
-        writable = r.allows.1;
-        inside = omega (arith, r.inside);
-        stored = ap (λ frame. written ws frame (place.offset / 4) (stored width (word_at ws place) address value)) r.frame;
-      })
-  store_few width address value (Err fault) e = inl refl
+  access_few : (access : Access) (bytes address : ℕ) (at : Place → Outcome) → ((place : Place) → Reaches ws core.root address access place → Few ws core.root (at place).words) →
+      Few ws core.root (access_does core ws access bytes address at).words
+  access_few access bytes address at few = elim (cases_Bool (is_aligned bytes address)) [
+    | inl a ↦ rw a (place_few access address at few (translated ws core.root address access) refl)
+    | inr a ↦ rw a (inl refl)
+  ]
 
-  does_few : (d : Doing) → Few ws root (does x ws root d).words
+  does_few : (d : Effect) → Few ws core.root (does core ws d).words
   does_few (sets rd value) = inl refl
   does_few (jumps rd target) = inl refl
   does_few (branches taken target) = inl refl
-  does_few (loads width rd address) = elim (cases_Bool (is_aligned (load_bytes width) address)) [
-    | inl a ↦ rw a (load_few width rd address (translated ws root address Load))
-    | inr a ↦ rw a (inl refl)
-  ]
-  does_few (stores width address value) = elim (cases_Bool (is_aligned (store_bytes width) address)) [
-    | inl a ↦ rw a (store_few width address value (translated ws root address Store) refl)
-    | inr a ↦ rw a (inl refl)
-  ]
+  does_few (loads width rd address) = access_few Load _ address (load_at core.context ws width rd address) (λ place r. inl refl)
+  does_few (stores width address value) = access_few Store _ address (store_at core.context ws width address value) (λ place r. inr (record {
+    page = r.page;
+    leaf = r.leaf;
+    offset = place.offset / 4;
+    value = stored width (word_at ws place) address value;
+    maps = r.maps;
+    readable = r.allows.0;
+    writable = r.allows.1;
+    inside = omega (arith, r.inside);
+    stored = ap (λ frame. written ws frame (place.offset / 4) (stored width (word_at ws place) address value)) r.frame;
+  }))
 
-  instruction_few : (clock : ℕ) (o : Option Instruction) → Few ws root (instruction_does x ws root clock o).words
-  instruction_few clock None = inl refl
-  instruction_few clock (Some i) = does_few (doing i x clock)
+  instruction_few : (o : Option Instruction) → Few ws core.root (instruction_does core ws o).words
+  instruction_few None = inl refl
+  instruction_few (Some i) = does_few (effect_of i core.context.registers core.context.pc core.clock)
 
-  fetch_few : (clock : ℕ) (found : Result Place PageFault) → Few ws root (fetch_does x ws root clock found).words
-  fetch_few clock (Ok place) = instruction_few clock (decoded (word_at ws place))
-  fetch_few clock (Err fault) = inl refl
+  fetch_few : (found : Result Place PageFault) → Few ws core.root (fetch_does core ws found).words
+  fetch_few (Ok place) = instruction_few (decoded (word_at ws place))
+  fetch_few (Err fault) = inl refl
 
-  program_few : (clock : ℕ) (s : State) → Few ws root (program_does s x ws root clock).words
-  program_few clock Ready = fetch_few clock (translated ws root x.pc Fetch)
-  program_few clock (Stopped cause pc) = inl refl
+  program_few : (s : State) → Few ws core.root (program_does s core ws).words
+  program_few Ready = fetch_few (translated ws core.root core.context.pc Fetch)
+  program_few (Stopped cause pc) = inl refl
 
-  architecture_few : (clock : ℕ) → Few ws root (architecture x ws root clock).words
+  architecture_few : Few ws core.root (architecture core ws).words
   unfolding architecture
-  architecture_few clock = program_few clock x.state
+  architecture_few = program_few core.context.state
 
 pub writes_own : WritesOwn
-writes_own x t ws root clock h =
-    let few : Few ws root (stepped x t ws root clock).words =
-    rw (agreement x t ws root clock h).words (architecture_few x ws root clock) in
+writes_own core ws h =
+    let few : Few ws core.root (stepped core ws).words = rw (agreement core ws h).words (architecture_few core ws) in
     record {
       one_word = few;
-      others = λ frame k foreign l. elim few [ inl e ↦ ap (λ us. word us frame k) e | inr s ↦ stored_elsewhere ws _ root s frame k foreign l ];
+      others = λ frame k foreign l. elim few [ inl e ↦ ap (λ us. word us frame k) e | inr s ↦ stored_elsewhere ws _ core.root s frame k foreign l ];
     }

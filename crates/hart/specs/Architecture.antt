@@ -6,60 +6,73 @@ use Rattle.isa.specs.declared.instruction.Instruction.{Instruction}
 use Rattle.isa.specs.declared.instruction.LoadWidth.{LoadWidth}
 use Rattle.isa.specs.declared.instruction.StoreWidth.{StoreWidth}
 use Rattle.isa.specs.Decoding.{decoded}
+use Rattle.isa.specs.Effects.{Effect, sets, jumps, branches, loads, stores, effect_of}
+use Rattle.paging.specs.declared.access.Access.{Access}
 use Rattle.paging.specs.declared.access.Access.TheVariants.{Fetch, Load, Store}
-use Rattle.paging.specs.declared.translate.PageFault.{PageFault}
-use Rattle.paging.specs.declared.translate.Place.{Place}
+use Rattle.paging.specs.Accesses.{PageFault}
+use Rattle.paging.specs.declared.place.Place.{Place}
 use Rattle.paging.specs.Walks.{translated}
-use Rattle.hart.specs.declared.cause.Cause.TheVariants.{IllegalInstruction, FetchFault, LoadMisaligned, LoadFault, StoreMisaligned, StoreFault}
+use Rattle.hart.specs.declared.cause.Cause.TheVariants.{IllegalInstruction}
 use Rattle.hart.specs.declared.context.State.{State}
 use Rattle.hart.specs.declared.context.State.TheVariants.{Ready, Stopped}
 use Rattle.hart.specs.declared.context.Context.{Context}
-use Rattle.hart.specs.Memory.{is_aligned, load_bytes, loaded, store_bytes, stored}
-use Rattle.hart.specs.Execution.{Doing, sets, jumps, branches, loads, stores, branch_context, doing, goes_on, jumped, next_pc, register_set, stopped}
+use Rattle.hart.specs.declared.step.Core.{Core}
+use Rattle.hart.specs.Causes.{fault_cause, misaligned_cause}
+use Rattle.isa.specs.Loads.{load_bytes, loaded}
+use Rattle.isa.specs.Memory.{is_aligned}
+use Rattle.isa.specs.Stores.{store_bytes, stored}
+use Rattle.hart.specs.Execution.{branch_context, goes_on, jumped, next_pc, register_set, stopped}
 
 -- what a program and its memory are after an instruction
-pub record Left : Type 0 where
+pub record Outcome : Type 0 where
   pub context : Context
   pub words : List ℕ
 
-abbrev pub left : Context → List ℕ → Left
-left x ws = record { context = x; words = ws }
+abbrev pub outcome : Context → List ℕ → Outcome
+outcome x ws = record { context = x; words = ws }
 
 -- the word that a place lies in
 abbrev pub word_at : List ℕ → Place → ℕ
 word_at ws place = word ws place.frame (place.offset / 4)
 
-abbrev pub load_does : Context → List ℕ → LoadWidth → Register → ℕ → Result Place PageFault → Left
-load_does x ws width rd address (Ok place) = left (register_set x rd (loaded width (word_at ws place) address)) ws
-load_does x ws width rd address (Err fault) = left (stopped x LoadFault) ws
+-- a load and a store, at the place that the address leads to
+abbrev pub load_at : Context → List ℕ → LoadWidth → Register → ℕ → Place → Outcome
+load_at x ws width rd address place = outcome (register_set x rd (loaded width (word_at ws place) address)) ws
 
-abbrev pub store_does : Context → List ℕ → StoreWidth → ℕ → ℕ → Result Place PageFault → Left
-store_does x ws width address value (Ok place) =
-    left (goes_on x (next_pc x)) (written ws place.frame (place.offset / 4) (stored width (word_at ws place) address value))
-store_does x ws width address value (Err fault) = left (stopped x StoreFault) ws
+abbrev pub store_at : Context → List ℕ → StoreWidth → ℕ → ℕ → Place → Outcome
+store_at x ws width address value place =
+    outcome (goes_on x (next_pc x)) (written ws place.frame (place.offset / 4) (stored width (word_at ws place) address value))
+
+-- an access to memory, done at its place. It stops the program if its address is not aligned, or leads to none
+abbrev pub place_does : Context → List ℕ → Access → (Place → Outcome) → Result Place PageFault → Outcome
+place_does x ws access at (Ok place) = at place
+place_does x ws access at (Err fault) = outcome (stopped x (fault_cause access)) ws
+
+abbrev pub access_does : Core → List ℕ → Access → ℕ → ℕ → (Place → Outcome) → Outcome
+access_does core ws access bytes address at =
+    cond (is_aligned bytes address) (place_does core.context ws access at (translated ws core.root address access))
+    (outcome (stopped core.context (misaligned_cause access)) ws)
 
 -- what an instruction asks for, done
-abbrev pub does : Context → List ℕ → ℕ → Doing → Left
-does x ws root (sets rd value) = left (register_set x rd value) ws
-does x ws root (jumps rd target) = left (jumped x rd target) ws
-does x ws root (branches taken target) = left (branch_context x taken target) ws
-does x ws root (loads width rd address) =
-    cond (is_aligned (load_bytes width) address) (load_does x ws width rd address (translated ws root address Load)) (left (stopped x LoadMisaligned) ws)
-does x ws root (stores width address value) =
-    cond (is_aligned (store_bytes width) address) (store_does x ws width address value (translated ws root address Store)) (left (stopped x StoreMisaligned) ws)
+abbrev pub does : Core → List ℕ → Effect → Outcome
+does core ws (sets rd value) = outcome (register_set core.context rd value) ws
+does core ws (jumps rd target) = outcome (jumped core.context rd target) ws
+does core ws (branches taken target) = outcome (branch_context core.context taken target) ws
+does core ws (loads width rd address) = access_does core ws Load (load_bytes width) address (load_at core.context ws width rd address)
+does core ws (stores width address value) = access_does core ws Store (store_bytes width) address (store_at core.context ws width address value)
 
-abbrev pub instruction_does : Context → List ℕ → ℕ → ℕ → Option Instruction → Left
-instruction_does x ws root clock None = left (stopped x IllegalInstruction) ws
-instruction_does x ws root clock (Some i) = does x ws root (doing i x clock)
+abbrev pub instruction_does : Core → List ℕ → Option Instruction → Outcome
+instruction_does core ws None = outcome (stopped core.context IllegalInstruction) ws
+instruction_does core ws (Some i) = does core ws (effect_of i core.context.registers core.context.pc core.clock)
 
-abbrev pub fetch_does : Context → List ℕ → ℕ → ℕ → Result Place PageFault → Left
-fetch_does x ws root clock (Ok place) = instruction_does x ws root clock (decoded (word_at ws place))
-fetch_does x ws root clock (Err fault) = left (stopped x FetchFault) ws
+abbrev pub fetch_does : Core → List ℕ → Result Place PageFault → Outcome
+fetch_does core ws (Ok place) = instruction_does core ws (decoded (word_at ws place))
+fetch_does core ws (Err fault) = outcome (stopped core.context (fault_cause Fetch)) ws
 
-abbrev pub program_does : State → Context → List ℕ → ℕ → ℕ → Left
-program_does Ready x ws root clock = fetch_does x ws root clock (translated ws root x.pc Fetch)
-program_does (Stopped cause pc) x ws root clock = left x ws
+abbrev pub program_does : State → Core → List ℕ → Outcome
+program_does Ready core ws = fetch_does core ws (translated ws core.root core.context.pc Fetch)
+program_does (Stopped cause pc) core ws = outcome core.context ws
 
--- one instruction of a program under a root, at a reading of the clock
-unfoldable pub architecture : Context → List ℕ → ℕ → ℕ → Left
-architecture x ws root clock = program_does x.state x ws root clock
+-- one instruction of the program on a core, under its root, at its reading of the clock; the core's tables do not enter
+unfoldable pub architecture : Core → List ℕ → Outcome
+architecture core ws = program_does core.context.state core ws

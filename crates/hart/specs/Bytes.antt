@@ -4,7 +4,8 @@ use Rattle.words.specs.Bits.{field, signed}
 use Rattle.isa.specs.declared.instruction.LoadWidth.{LoadWidth}
 use Rattle.isa.specs.declared.instruction.LoadWidth.TheVariants.{Byte, Half, Word, ByteUnsigned, HalfUnsigned}
 use Rattle.isa.specs.declared.instruction.StoreWidth.{StoreWidth}
-use Rattle.hart.specs.Memory.{loaded, store_bytes, stored}
+use Rattle.isa.specs.Loads.{loaded}
+use Rattle.isa.specs.Stores.{store_bytes, stored}
 
 -- byte k of a word, from its lowest
 abbrev pub byte_of : ℕ → ℕ → ℕ

@@ -19,3 +19,9 @@ abbrev pub fault_cause : Access → Cause
 fault_cause Fetch = FetchFault
 fault_cause Load = LoadFault
 fault_cause Store = StoreFault
+
+-- and of an address that is not aligned
+abbrev pub misaligned_cause : Access → Cause
+misaligned_cause Fetch = FetchMisaligned
+misaligned_cause Load = LoadMisaligned
+misaligned_cause Store = StoreMisaligned

@@ -2,9 +2,10 @@
 use Rattle.std.specs.Prelude.{◌≡◌, ℕ, List}
 use Rattle.words.specs.Frames.{written}
 use Rattle.isa.specs.Registers.{held, register}
-use Rattle.hart.specs.Core.{first_core}
-use Rattle.hart.specs.Mapped.{mapped, mapped_in}
-use Rattle.hart.specs.Moments.{Moment, after, cost_at}
+use Rattle.paging.specs.Small.{mapped, mapped_in, with_page}
+use Rattle.costs.specs.Cycles.{cycles}
+use Rattle.hart.specs.Core.{first_core, stepped}
+use Rattle.hart.specs.Moments.{Moment, after, begin}
 
 -- LUI x2, 17; rdcycle x5; LW x6, 0(x2); a fourth word; rdcycle x8
 abbrev pub program : ℕ → List ℕ
@@ -12,23 +13,27 @@ program fourth =
     written (written (written (written (written mapped 2 0 0x00011137) 2 1 0xC00022F3) 2 2 0x00012303) 2 3 fourth) 2 4 0xC0002473
 
 -- a fresh program in page 16
-abbrev pub begin : List ℕ → Moment
-begin words = record { core = first_core 0 0x10000; words = words }
+abbrev pub beginning : List ℕ → Moment
+beginning words = begin (first_core 0 0x10000) words
+
+-- the cycles of the step that comes then
+abbrev pub cost_at : Moment → ℕ
+cost_at m = cycles (stepped m.core m.words).used
 
 abbrev pub start : ℕ → Moment
-start fourth = begin (program fourth)
+start fourth = beginning (program fourth)
 
 abbrev pub register_after : ℕ → ℕ → ℕ → ℕ
 register_after fourth n r = held (after n (start fourth)).core.context.registers (register r)
 
 -- a program of one word, after some steps
 abbrev pub alone : ℕ → ℕ → Moment
-alone word n = after n (begin (written mapped 2 0 word))
+alone word n = after n (beginning (written mapped 2 0 word))
 
 -- the same memory with pages 18 and 19, which are frame 2 as well: LUI x2, 17; LUI x3, 19; SW x0, 0(x2);
 -- a JAL that goes on at the fifth word, by page 18; LW x6, 0(x3)
 abbrev pub four_pages : List ℕ
-four_pages = written (written mapped 1 18 0x8DB) 1 19 0x8DB
+four_pages = with_page (with_page mapped 18 0x8DB) 19 0x8DB
 
 abbrev pub dear : List ℕ
 dear = written (written (written (written (written four_pages 2 0 0x00011137) 2 1 0x000131B7) 2 2 0x00012023) 2 3 0x0040206F) 2 4 0x0001A303
@@ -36,12 +41,12 @@ dear = written (written (written (written (written four_pages 2 0 0x00011137) 2 
 -- page 18 is a frame of its own, frame 4, with R and W: LUI x2, 17; SW x0, 0(x2); LUI x3, 18; LW x6, 0(x3), whose line has the place of the one that was stored to; LW x6, 0(x3)
 abbrev pub evicting : List ℕ
 evicting =
-    let words = written (mapped_in 5120) 1 18 0x10D7 in
+    let words = with_page (mapped_in 5120) 18 0x10D7 in
     written (written (written (written (written words 2 0 0x00011137) 2 1 0x00012023) 2 2 0x000121B7) 2 3 0x0001A303) 2 4 0x0001A303
 
 -- what an instruction of that program costs, with so many before it
 abbrev pub evicting_cost : ℕ → ℕ
-evicting_cost n = cost_at (after n (begin evicting))
+evicting_cost n = cost_at (after n (beginning evicting))
 
 -- the first instruction costs 31, the first load 51, and a second load of the same line 1; one of the next line 21.
 -- A counter begins at 1, which predicts not taken: BEQ x0, x0, 8, which is taken, costs 3 besides, and BNE x0, x0, 8 nothing.
@@ -61,6 +66,6 @@ pub record Clocked : Type 0 where
   pub stores : evicting_cost 1 ≡ 51
   pub evicts : evicting_cost 3 ≡ 61
   pub again : evicting_cost 4 ≡ 1
-  pub evicted_in_all : (after 5 (begin evicting)).core.clock ≡ 145
-  pub most : cost_at (after 4 (begin dear)) ≡ 91
-  pub in_all : (after 5 (begin dear)).core.clock ≡ 175
+  pub evicted_in_all : (after 5 (beginning evicting)).core.clock ≡ 145
+  pub most : cost_at (after 4 (beginning dear)) ≡ 91
+  pub in_all : (after 5 (beginning dear)).core.clock ≡ 175

@@ -1,166 +1,126 @@
--- The core: one instruction with TLB, cache, predictor and cost.
-use Rattle.std.specs.Prelude.{ℕ, ◌+◌, ◌/◌, ◌%◌, ◌^◌, Bool, true, false, cond, List, Some, None, Option}
-use Rattle.words.specs.Costs.{instruction}
-use Rattle.words.specs.Frames.{word, written}
-use Rattle.isa.specs.declared.register.Register.{Register}
+-- The core: one instruction with TLB, cache and predictor, and what it used of them.
+use Rattle.std.specs.Prelude.{ℕ, ◌+◌, ◌/◌, ◌%◌, ◌^◌, Bool, false, cond, List, Some, None, Option}
+use Rattle.costs.specs.declared.used.Used.{Used}
+use Rattle.costs.specs.Cycles.{cycles, plain}
+use Rattle.words.specs.Frames.{word}
 use Rattle.isa.specs.declared.instruction.Instruction.{Instruction}
-use Rattle.isa.specs.declared.instruction.LoadWidth.{LoadWidth}
-use Rattle.isa.specs.declared.instruction.StoreWidth.{StoreWidth}
 use Rattle.isa.specs.Decoding.{decoded}
+use Rattle.isa.specs.Effects.{Effect, sets, jumps, branches, loads, stores, effect_of}
 use Rattle.paging.specs.declared.access.Access.{Access}
 use Rattle.paging.specs.declared.access.Access.TheVariants.{Fetch, Load, Store}
-use Rattle.paging.specs.declared.translate.Place.{Place}
+use Rattle.paging.specs.declared.place.Place.{Place}
 pub use Rattle.paging.specs.Accesses.{place_in}
 use Rattle.paging.specs.Walks.{walked}
-use Rattle.tables.specs.declared.Tables.{Tables}
 use Rattle.tables.specs.declared.tlb.Lookup.{Lookup}
+use Rattle.tables.specs.declared.predictor.Predictor.{Predictor}
 use Rattle.tables.specs.First.{first_tables}
 use Rattle.tables.specs.Tlb.{found, filled}
-use Rattle.tables.specs.Cache.{access_cost, accessed, line_of}
-use Rattle.tables.specs.Predictor.{branch_cost, learned}
-use Rattle.hart.specs.declared.cause.Cause.TheVariants.{IllegalInstruction, FetchFault, LoadMisaligned, LoadFault, StoreMisaligned, StoreFault}
-use Rattle.hart.specs.declared.context.State.TheVariants.{Ready, Stopped}
+use Rattle.tables.specs.Cache.{access_use, accessed, is_store, line_of}
+use Rattle.tables.specs.Predictor.{learned, mispredicts}
+use Rattle.hart.specs.declared.cause.Cause.TheVariants.{IllegalInstruction}
 use Rattle.hart.specs.declared.context.State.{State}
+use Rattle.hart.specs.declared.context.State.TheVariants.{Ready, Stopped}
 use Rattle.hart.specs.declared.context.Context.{Context}
 use Rattle.hart.specs.declared.step.Core.{Core}
-use Rattle.hart.specs.Causes.{fault_cause}
-use Rattle.hart.specs.Memory.{is_aligned, load_bytes, loaded, store_bytes, stored}
-use Rattle.hart.specs.Execution.{Doing, sets, jumps, branches, loads, stores, branch_context, doing, fresh, goes_on, jumped, misses_target, next_pc, register_set, stopped}
+use Rattle.hart.specs.Causes.{fault_cause, misaligned_cause}
+use Rattle.isa.specs.Loads.{load_bytes}
+use Rattle.isa.specs.Memory.{is_aligned}
+use Rattle.isa.specs.Stores.{store_bytes}
+use Rattle.hart.specs.Execution.{branch_context, fresh, jumped, misses_target, register_set, stopped}
+use Rattle.hart.specs.Architecture.{Outcome, load_at, store_at}
 
--- what a step leaves, and what it cost
-pub record Ran : Type 0 where
-  pub context : Context
-  pub tables : Tables
+-- what a step leaves, and what was used on the way
+pub record Step : Type 0 where
+  pub core : Core
   pub words : List ℕ
-  pub cost : ℕ
-
-abbrev pub ran : Context → Tables → List ℕ → ℕ → Ran
-ran x t ws cost = record { context = x; tables = t; words = ws; cost = cost }
-
--- the TLB's answer to an access to an address, and the tables after it
-abbrev pub looked_up : Tables → List ℕ → ℕ → ℕ → Access → Lookup
-looked_up t ws root address access = found t.tlb (address / 4096) access (walked ws root (address / 4096))
-
-abbrev pub after_lookup : Tables → List ℕ → ℕ → ℕ → Access → Tables
-after_lookup t ws root address access =
-    record { cache = t.cache; tlb = filled t.tlb (address / 4096) access (walked ws root (address / 4096)); predictor = t.predictor }
-
-abbrev pub with_access : Tables → Place → Bool → Tables
-with_access t place store = record { cache = accessed t.cache (line_of place) store; tlb = t.tlb; predictor = t.predictor }
-
--- a load or store from the frame that its page was found in
-abbrev pub load_from : Context → Tables → List ℕ → LoadWidth → Register → ℕ → ℕ → ℕ → Ran
-load_from x t ws width rd address frame cost =
-    ran (register_set x rd (loaded width (word ws frame (address % 4096 / 4)) address)) (with_access t (place_in frame address) false) ws
-    (cost + access_cost t.cache (line_of (place_in frame address)))
-
-abbrev pub store_to : Context → Tables → List ℕ → StoreWidth → ℕ → ℕ → ℕ → ℕ → Ran
-store_to x t ws width address value frame cost =
-    ran (goes_on x (next_pc x)) (with_access t (place_in frame address) true)
-    (written ws frame (address % 4096 / 4) (stored width (word ws frame (address % 4096 / 4)) address value))
-    (cost + access_cost t.cache (line_of (place_in frame address)))
-
--- the same by what the look-up found: a frame, or a fault
-abbrev pub load_found : Context → Tables → List ℕ → LoadWidth → Register → ℕ → Option ℕ → ℕ → Ran
-load_found x t ws width rd address None cost = ran (stopped x LoadFault) t ws cost
-load_found x t ws width rd address (Some frame) cost = load_from x t ws width rd address frame cost
-
-abbrev pub store_found : Context → Tables → List ℕ → StoreWidth → ℕ → ℕ → Option ℕ → ℕ → Ran
-store_found x t ws width address value None cost = ran (stopped x StoreFault) t ws cost
-store_found x t ws width address value (Some frame) cost = store_to x t ws width address value frame cost
-
--- alignment is tested first, then the page is looked up, then the cache is asked
-unfoldable pub load_ran : Context → Tables → List ℕ → ℕ → LoadWidth → Register → ℕ → Ran
-load_ran x t ws root width rd address =
-    cond (is_aligned (load_bytes width) address)
-    (load_found x (after_lookup t ws root address Load) ws width rd address (looked_up t ws root address Load).frame (looked_up t ws root address Load).cost)
-    (ran (stopped x LoadMisaligned) t ws 0)
-
-unfoldable pub store_ran : Context → Tables → List ℕ → ℕ → StoreWidth → ℕ → ℕ → Ran
-store_ran x t ws root width address value =
-    cond (is_aligned (store_bytes width) address)
-    (store_found x (after_lookup t ws root address Store) ws width address value (looked_up t ws root address Store).frame (looked_up t ws root address Store).cost)
-    (ran (stopped x StoreMisaligned) t ws 0)
-
--- the predictor learns how a branch went, and a wrong prediction costs; of a branch that stops it is not asked
-abbrev pub branch_tables : Context → Tables → Bool → ℕ → Tables
-branch_tables x t taken target =
-    cond (misses_target taken target) t (record { cache = t.cache; tlb = t.tlb; predictor = learned t.predictor x.pc taken })
-
-abbrev pub branch_extra : Context → Tables → Bool → ℕ → ℕ
-branch_extra x t taken target = cond (misses_target taken target) 0 (branch_cost t.predictor x.pc taken)
-
-unfoldable pub executed : Context → Tables → List ℕ → ℕ → Doing → Ran
-executed x t ws root (sets rd value) = ran (register_set x rd value) t ws 0
-executed x t ws root (jumps rd target) = ran (jumped x rd target) t ws 0
-executed x t ws root (branches taken target) = ran (branch_context x taken target) (branch_tables x t taken target) ws (branch_extra x t taken target)
-executed x t ws root (loads width rd address) = load_ran x t ws root width rd address
-executed x t ws root (stores width address value) = store_ran x t ws root width address value
-
--- the cycles so far, and those of the rest
-abbrev pub and_cost : ℕ → Ran → Ran
-and_cost before r = record { context = r.context; tables = r.tables; words = r.words; cost = before + r.cost }
-
--- decoding, and then the instruction
-abbrev pub decoded_ran : Context → Tables → List ℕ → ℕ → ℕ → Option Instruction → Ran
-decoded_ran x t ws root clock None = ran (stopped x IllegalInstruction) t ws 0
-decoded_ran x t ws root clock (Some i) = executed x t ws root (doing i x clock)
-
--- what the word of a fetch asks for
-unfoldable pub word_ran : Context → Tables → List ℕ → ℕ → ℕ → ℕ → Ran
-word_ran x t ws root clock w = decoded_ran x t ws root clock (decoded w)
-
-abbrev pub fetch_found : Context → Tables → List ℕ → ℕ → ℕ → Option ℕ → ℕ → Ran
-fetch_found x t ws root clock None cost = ran (stopped x FetchFault) t ws cost
-fetch_found x t ws root clock (Some frame) cost = and_cost cost (word_ran x t ws root clock (word ws frame (x.pc % 4096 / 4)))
-
--- a ready program: the fetch, which uses the TLB and not the cache, and then its word
-unfoldable pub fetch_ran : Context → Tables → List ℕ → ℕ → ℕ → Ran
-fetch_ran x t ws root clock =
-    fetch_found x (after_lookup t ws root x.pc Fetch) ws root clock (looked_up t ws root x.pc Fetch).frame (instruction + (looked_up t ws root x.pc Fetch).cost)
-
--- one step: a stopped program uses up one cycle
-abbrev pub stepped_by : State → Context → Tables → List ℕ → ℕ → ℕ → Ran
-stepped_by Ready x t ws root clock = fetch_ran x t ws root clock
-stepped_by (Stopped cause pc) x t ws root clock = ran x t ws instruction
-
-unfoldable pub stepped : Context → Tables → List ℕ → ℕ → ℕ → Ran
-stepped x t ws root clock = stepped_by x.state x t ws root clock
-
--- the same of a core: what runs on its context and its tables, under its root
-abbrev pub on : {A : Type 0} → Core → (Context → Tables → List ℕ → ℕ → A) → List ℕ → A
-on core runs ws = runs core.context core.tables ws core.root
-
-abbrev pub step_of : Core → List ℕ → Ran
-step_of core ws = on core stepped ws core.clock
-
--- the word at the counter, in the frame that its page was found in
-abbrev pub run_from : Core → List ℕ → ℕ → Ran
-run_from core ws frame = on core word_ran ws core.clock (word ws frame (core.context.pc % 4096 / 4))
-
-abbrev pub execution_of : Core → List ℕ → Instruction → Ran
-execution_of core ws i = on core executed ws (doing i core.context core.clock)
-
--- a core with what was left of its context and its tables, and then with the clock moved on too, which has 64 bits
-abbrev pub with_ran : Core → Ran → Core
-with_ran core r = record core { context = r.context; tables = r.tables }
-
-abbrev pub later : Core → Ran → Core
-later core r = record core { context = r.context; tables = r.tables; clock = (core.clock + r.cost) % 2 ^ 64 }
-
--- after a look-up, which stops a program whose access faults
-abbrev pub unless_fault : Context → Access → Option ℕ → Context
-unless_fault x access None = stopped x (fault_cause access)
-unless_fault x access (Some frame) = x
-
-abbrev pub faulted : Core → List ℕ → ℕ → Access → Option ℕ → Core
-faulted core ws address access frame =
-    record core { context = unless_fault core.context access frame; tables = after_lookup core.tables ws core.root address access }
-
-abbrev pub branched : Core → Bool → ℕ → Core
-branched core taken target =
-    record core { context = branch_context core.context taken target; tables = branch_tables core.context core.tables taken target }
+  pub used : Used
 
 -- a core with a fresh program: the tables in their first state, the clock at 0
 abbrev pub first_core : ℕ → ℕ → Core
 first_core root pc = record { context = fresh pc; tables = first_tables; root = root; clock = 0 }
+
+-- no table is used: the program goes on, or stops
+abbrev pub leads_to : Core → List ℕ → Context → Step
+leads_to core ws x = record { core = record core { context = x }; words = ws; used = plain }
+
+-- the TLB's answer to an access to an address, and the core after it
+abbrev pub looked_up : Core → List ℕ → ℕ → Access → Lookup
+looked_up core ws address access = found core.tables.tlb (address / 4096) access (walked ws core.root (address / 4096))
+
+abbrev pub after_lookup : Core → List ℕ → ℕ → Access → Core
+after_lookup core ws address access =
+    record core { tables = record core.tables { tlb = filled core.tables.tlb (address / 4096) access (walked ws core.root (address / 4096)) } }
+
+-- a load or store by what the look-up of its page found: a frame, in which it is done as the architecture says, with the cache; or a fault
+abbrev pub access_found : Core → List ℕ → Access → ℕ → (Place → Outcome) → Bool → Option ℕ → Step
+access_found core ws access address at walked None =
+    record { core = record core { context = stopped core.context (fault_cause access) }; words = ws; used = record plain { data_walked = walked } }
+access_found core ws access address at walked (Some frame) = record {
+  core = record core {
+    context = (at (place_in frame address)).context;
+    tables = record core.tables { cache = accessed core.tables.cache (line_of (place_in frame address)) (is_store access) };
+  };
+  words = (at (place_in frame address)).words;
+  used = record plain { data_walked = walked; cache = access_use core.tables.cache (line_of (place_in frame address)) };
+}
+
+-- alignment is tested first, then the page is looked up, then the cache is asked
+unfoldable pub data_access : Core → List ℕ → Access → ℕ → ℕ → (Place → Outcome) → Step
+data_access core ws access bytes address at =
+    cond (is_aligned bytes address)
+    (access_found (after_lookup core ws address access) ws access address at (looked_up core ws address access).walked (looked_up core ws address access).frame)
+    (leads_to core ws (stopped core.context (misaligned_cause access)))
+
+-- the predictor learns how a branch went, and may have been wrong; of a branch that stops it is not asked
+abbrev pub predictor_after : Core → Bool → ℕ → Predictor
+predictor_after core taken target = cond (misses_target taken target) core.tables.predictor (learned core.tables.predictor core.context.pc taken)
+
+abbrev pub was_wrong : Core → Bool → ℕ → Bool
+was_wrong core taken target = cond (misses_target taken target) false (mispredicts core.tables.predictor core.context.pc taken)
+
+abbrev pub branched : Core → Bool → ℕ → Core
+branched core taken target =
+    record core { context = branch_context core.context taken target; tables = record core.tables { predictor = predictor_after core taken target } }
+
+-- what an instruction asks for, done
+unfoldable pub executed : Core → List ℕ → Effect → Step
+executed core ws (sets rd value) = leads_to core ws (register_set core.context rd value)
+executed core ws (jumps rd target) = leads_to core ws (jumped core.context rd target)
+executed core ws (branches taken target) =
+    record { core = branched core taken target; words = ws; used = record plain { mispredicted = was_wrong core taken target } }
+executed core ws (loads width rd address) = data_access core ws Load (load_bytes width) address (load_at core.context ws width rd address)
+executed core ws (stores width address value) = data_access core ws Store (store_bytes width) address (store_at core.context ws width address value)
+
+-- the word of a fetch is decoded, and then executed
+abbrev pub instruction_step : Core → List ℕ → Option Instruction → Step
+instruction_step core ws None = leads_to core ws (stopped core.context IllegalInstruction)
+instruction_step core ws (Some i) = executed core ws (effect_of i core.context.registers core.context.pc core.clock)
+
+unfoldable pub word_step : Core → List ℕ → ℕ → Step
+word_step core ws w = instruction_step core ws (decoded w)
+
+-- a fetch uses the TLB and not the cache
+abbrev pub with_fetch : Bool → Step → Step
+with_fetch walked s = record s { used = record s.used { fetch_walked = walked } }
+
+abbrev pub fetch_found : Core → List ℕ → Bool → Option ℕ → Step
+fetch_found core ws walked None = with_fetch walked (leads_to core ws (stopped core.context (fault_cause Fetch)))
+fetch_found core ws walked (Some frame) = with_fetch walked (word_step core ws (word ws frame (core.context.pc % 4096 / 4)))
+
+-- a ready program: the fetch, and then its word
+unfoldable pub fetch_step : Core → List ℕ → Step
+fetch_step core ws =
+    fetch_found (after_lookup core ws core.context.pc Fetch) ws (looked_up core ws core.context.pc Fetch).walked (looked_up core ws core.context.pc Fetch).frame
+
+-- a stopped program uses nothing, and stays as it is
+abbrev pub program_step : State → Core → List ℕ → Step
+program_step Ready core ws = fetch_step core ws
+program_step (Stopped cause pc) core ws = leads_to core ws core.context
+
+-- the clock, which has 64 bits, moves on by the cycles of what was used
+abbrev pub on_time : Step → Step
+on_time s = record s { core = record s.core { clock = (s.core.clock + cycles s.used) % 2 ^ 64 } }
+
+-- one step
+unfoldable pub stepped : Core → List ℕ → Step
+stepped core ws = on_time (program_step core.context.state core ws)

@@ -3,11 +3,11 @@ use Rattle.std.specs.Prelude.{ℕ, List}
 use Rattle.words.specs.Frames.{written}
 use Rattle.paging.specs.Tables.{Names}
 use Rattle.hart.specs.Laws.{SameOwn, TablesApart}
-use Rattle.hart.specs.Mapped.{mapped_in}
+use Rattle.paging.specs.Small.{mapped_in, with_page}
 
 -- in five frames page 18 names frame 4 with W and without R, so that no access reaches it
 abbrev pub five_frames : ℕ → List ℕ
-five_frames content = written (written (mapped_in 5120) 1 18 0x10D5) 4 0 content
+five_frames content = written (with_page (mapped_in 5120) 18 0x10D5) 4 0 content
 
 -- the tables name none of themselves; and whatever a frame holds that they name and no page maps to, the programs of the root see the same
 pub record Example : Type 0 where

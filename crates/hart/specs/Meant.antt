@@ -6,20 +6,25 @@ use Rattle.hart.specs.declared.cause.Cause.TheVariants.{IllegalInstruction, Fetc
 use Rattle.hart.specs.declared.context.State.{State}
 use Rattle.hart.specs.declared.context.State.TheVariants.{Ready, Stopped}
 use Rattle.hart.specs.declared.context.Context.{Context}
-use Rattle.hart.specs.Architecture.{Left, architecture}
-use Rattle.hart.specs.Mapped.{mapped}
+use Rattle.hart.specs.declared.step.Core.{Core}
+use Rattle.tables.specs.First.{first_tables}
+use Rattle.hart.specs.Architecture.{Outcome, architecture}
+use Rattle.paging.specs.Small.{mapped}
 
--- a ready program at an address; x1 and x2 hold two numbers, and every other register 0
+-- a ready program at an address under root 0; x1 and x2 hold two numbers, and every other register 0
 abbrev pub program_at : ℕ → ℕ → ℕ → Context
 program_at pc one two = record { registers = set (set blank (register 1) one) (register 2) two; pc = pc; state = Ready }
+
+abbrev pub core_at : ℕ → Context → Core
+core_at clock x = record { context = x; tables = first_tables; root = 0; clock = clock }
 
 -- a word of code is the first of page 16, and the bytes 81, F2, 70, 80 are the first of page 17, both in hexadecimal
 abbrev pub with_code : ℕ → List ℕ
 with_code code = written (written mapped 2 0 code) 3 0 0x8070F281
 
 -- that word executed with two numbers in x1 and x2, at clock 5 * 2 ^ 32 + 7
-abbrev pub does_word : ℕ → ℕ → ℕ → Left
-does_word code one two = architecture (program_at 0x10000 one two) (with_code code) 0 (5 * 2 ^ 32 + 7)
+abbrev pub does_word : ℕ → ℕ → ℕ → Outcome
+does_word code one two = architecture (core_at (5 * 2 ^ 32 + 7) (program_at 0x10000 one two)) (with_code code)
 
 -- what it leaves in a register, in the counter, in the first word of page 17, and the state
 abbrev pub leaves_in : ℕ → ℕ → ℕ → ℕ → ℕ
@@ -81,7 +86,7 @@ pub record StopsMeant : Type 0 where
   pub stays : goes_to 0x002001EF 0 0 ≡ 0x10000
   pub branch_misaligned : state_of 0x00000163 0 0 ≡ Stopped FetchMisaligned 0x10000
   pub not_taken : goes_to 0x00001163 0 0 ≡ 0x10004
-  pub fetch_fault : (architecture (program_at 0x11000 0 0) (with_code 0) 0 0).context.state ≡ Stopped FetchFault 0x11000
+  pub fetch_fault : (architecture (core_at 0 (program_at 0x11000 0 0)) (with_code 0)).context.state ≡ Stopped FetchFault 0x11000
   pub load_misaligned : state_of 0x00109183 0x11000 0 ≡ Stopped LoadMisaligned 0x10000
   pub lhu_misaligned : state_of 0x0010D183 0x11000 0 ≡ Stopped LoadMisaligned 0x10000
   pub lw_misaligned : state_of 0x0020A183 0x11000 0 ≡ Stopped LoadMisaligned 0x10000

@@ -1,89 +1,83 @@
-// One instruction that was fetched and decoded. Each function answers the cycles beyond those of the fetch.
-ghost use Rattle.std.specs.Prelude.{◌≡◌, ◌+◌, ◌≤◌};
-ghost use Rattle.words.specs.Costs.{misprediction, miss, page_walk, write_back};
-ghost use Rattle.hart.specs.Core.{branch_extra, branched, execution_of, load_ran, on, store_ran, with_ran};
-ghost use Rattle.hart.specs.Execution.{counter_value, offset_by};
+// One instruction that was fetched and decoded. Each function answers what it used beyond the fetch.
+ghost use Rattle.std.specs.Prelude.{◌≡◌};
+ghost use Rattle.isa.specs.Effects.{loads, stores};
+ghost use Rattle.hart.specs.Core.{branched, executed, was_wrong};
+ghost use Rattle.hart.specs.Scaffold.{execution_of};
 
 use crate::cause::Cause;
 use crate::memory;
 use crate::step::Core;
-use isa::alu::word_of;
-use isa::instruction::{Counter, Instruction, LoadWidth, StoreWidth};
+use costs::used::Used;
+use isa::alu::{offset_by, word_of};
+use isa::instruction::{Instruction, LoadWidth, StoreWidth};
 use isa::register::Register;
 use paging::access::Access;
-use paging::translate::{PAGE_BYTES, Place};
+use paging::place::{PAGE_BYTES, Place};
 use words::frames;
 
-fn offset_by(address: u32, offset: i32) -> u32
-    ensures { result ≡ offset_by address offset }
-{
-    address.wrapping_add(word_of(offset))
-}
-
-fn counter_value(counter: Counter, clock: u64) -> u32
-    ensures { result ≡ counter_value counter clock }
-{
-    match counter {
-        Counter::Cycle | Counter::Time => (clock % (1 << 32)) as u32,
-        Counter::CycleHigh => (clock / (1 << 32)) as u32,
-    }
-}
-
 impl Core {
-    fn branch(&mut self, taken: bool, target: u32) -> u32
-        ensures cost { result ≡ branch_extra self.old.context self.old.tables taken target }
-        ensures most { result ≤ misprediction }
+    // Whether the predictor was wrong about the branch.
+    fn branch(&mut self, taken: bool, target: u32) -> bool
+        ensures wrong { result ≡ was_wrong self.old taken target }
         ensures core { self.new ≡ branched self.old taken target }
     {
         if taken && target % 4 != 0 {
             self.context.stop(Cause::FetchMisaligned);
-            return 0;
+            return false;
         }
-        let cost = self.tables.predictor.resolve(self.context.pc, taken);
+        let wrong = self.tables.predictor.resolve(self.context.pc, taken);
         let pc = if taken { target } else { self.context.next() };
         self.context.go_on(pc);
-        cost
+        wrong
     }
 
-    #[tactic(auto, unfolding(crate::specs::Core::load_ran))]
-    fn load(&mut self, words: &[u32], width: LoadWidth, register: Register, address: u32) -> u32
-        ensures cost { result ≡ (on self.old load_ran words.now width register address).cost }
-        ensures most { result ≤ page_walk + miss + write_back }
-        ensures core { self.new ≡ with_ran self.old (on self.old load_ran words.now width register address) }
+    #[tactic(auto, unfolding(crate::specs::Core::executed, crate::specs::Core::data_access))]
+    fn load(&mut self, words: &[u32], width: LoadWidth, register: Register, address: u32) -> Used
+        ensures used { result ≡ (executed self.old words.now (loads width register address)).used }
+        ensures core { self.new ≡ (executed self.old words.now (loads width register address)).core }
     {
         if address % memory::load_bytes(width) != 0 {
             self.context.stop(Cause::LoadMisaligned);
-            return 0;
+            return Used::plain();
         }
         let found = self.look_up(words, address, Access::Load);
         let Some(frame) = found.frame else {
-            return found.cost;
+            return Used {
+                data_walked: found.walked,
+                ..Used::plain()
+            };
         };
         let offset = address % PAGE_BYTES;
-        let cost = self.tables.cache.access(Place { frame, offset }, false);
+        let cache = self.tables.cache.access(Place { frame, offset }, false);
         let word = frames::read(words, frame, offset / 4);
         self.context
             .set(register, memory::load(width, word, address));
-        found.cost + cost
+        Used {
+            data_walked: found.walked,
+            cache,
+            ..Used::plain()
+        }
     }
 
-    #[tactic(auto, unfolding(crate::specs::Core::store_ran))]
-    fn store(&mut self, words: &mut [u32], width: StoreWidth, address: u32, value: u32) -> u32
-        ensures cost { result ≡ (on self.old store_ran words.old width address value).cost }
-        ensures most { result ≤ page_walk + miss + write_back }
-        ensures core { self.new ≡ with_ran self.old (on self.old store_ran words.old width address value) }
-        ensures words { words.new ≡ (on self.old store_ran words.old width address value).words }
+    #[tactic(auto, unfolding(crate::specs::Core::executed, crate::specs::Core::data_access))]
+    fn store(&mut self, words: &mut [u32], width: StoreWidth, address: u32, value: u32) -> Used
+        ensures used { result ≡ (executed self.old words.old (stores width address value)).used }
+        ensures core { self.new ≡ (executed self.old words.old (stores width address value)).core }
+        ensures words { words.new ≡ (executed self.old words.old (stores width address value)).words }
     {
         if address % memory::store_bytes(width) != 0 {
             self.context.stop(Cause::StoreMisaligned);
-            return 0;
+            return Used::plain();
         }
         let found = self.look_up(words, address, Access::Store);
         let Some(frame) = found.frame else {
-            return found.cost;
+            return Used {
+                data_walked: found.walked,
+                ..Used::plain()
+            };
         };
         let offset = address % PAGE_BYTES;
-        let cost = self.tables.cache.access(Place { frame, offset }, true);
+        let cache = self.tables.cache.access(Place { frame, offset }, true);
         let old = frames::read(words, frame, offset / 4);
         frames::write(
             words,
@@ -93,36 +87,39 @@ impl Core {
         );
         let next = self.context.next();
         self.context.go_on(next);
-        found.cost + cost
+        Used {
+            data_walked: found.walked,
+            cache,
+            ..Used::plain()
+        }
     }
 
-    // What the instruction asks for, with what that costs. One match over ten kinds, each arm a call: parts of it would be named by nothing.
-    #[tactic(auto, using(crate::proofs::Ran::load_words), unfolding(crate::specs::Core::executed))]
-    pub(crate) fn execute(&mut self, instruction: Instruction, words: &mut [u32]) -> u32
-        ensures cost { result ≡ (execution_of self.old words.old instruction).cost }
-        ensures most { result ≤ page_walk + miss + write_back }
-        ensures core { self.new ≡ with_ran self.old (execution_of self.old words.old instruction) }
+    // What the instruction asks for. One match over ten kinds, each arm a call: parts of it would be named by nothing.
+    #[tactic(auto, using(crate::proofs::Stepping::load_words), unfolding(crate::specs::Core::executed))]
+    pub(crate) fn execute(&mut self, instruction: Instruction, words: &mut [u32]) -> Used
+        ensures used { result ≡ (execution_of self.old words.old instruction).used }
+        ensures core { self.new ≡ (execution_of self.old words.old instruction).core }
         ensures words { words.new ≡ (execution_of self.old words.old instruction).words }
     {
         match instruction {
             Instruction::Lui { rd, value } => {
                 self.context.set(rd, word_of(value));
-                0
+                Used::plain()
             }
             Instruction::Auipc { rd, value } => {
                 let sum = offset_by(self.context.pc, value);
                 self.context.set(rd, sum);
-                0
+                Used::plain()
             }
             Instruction::Jal { rd, offset } => {
                 let target = offset_by(self.context.pc, offset);
                 self.context.jump(rd, target);
-                0
+                Used::plain()
             }
             Instruction::Jalr { rd, base, offset } => {
                 let target = offset_by(self.context.registers.read(base), offset);
                 self.context.jump(rd, target - target % 2);
-                0
+                Used::plain()
             }
             Instruction::Branch {
                 condition,
@@ -135,7 +132,11 @@ impl Core {
                     self.context.registers.read(right),
                 );
                 let target = offset_by(self.context.pc, offset);
-                self.branch(taken, target)
+                let mispredicted = self.branch(taken, target);
+                Used {
+                    mispredicted,
+                    ..Used::plain()
+                }
             }
             Instruction::Load {
                 width,
@@ -164,7 +165,7 @@ impl Core {
             } => {
                 let result = operation.compute(self.context.registers.read(source), word_of(value));
                 self.context.set(rd, result);
-                0
+                Used::plain()
             }
             Instruction::RegisterRegister {
                 operation,
@@ -177,11 +178,11 @@ impl Core {
                     self.context.registers.read(right),
                 );
                 self.context.set(rd, result);
-                0
+                Used::plain()
             }
             Instruction::ReadCounter { rd, counter } => {
-                self.context.set(rd, counter_value(counter, self.clock));
-                0
+                self.context.set(rd, counter.value(self.clock));
+                Used::plain()
             }
         }
     }

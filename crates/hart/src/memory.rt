@@ -1,6 +1,8 @@
 // Bytes and halves in a word, low byte first.
 ghost use Rattle.std.specs.Prelude.{◌≡◌, ◌+◌, ◌<◌, ◌≤◌};
-ghost use Rattle.hart.specs.Memory.{load_bytes, loaded, replaced, store_bytes, stored};
+ghost use Rattle.isa.specs.Loads.{load_bytes, loaded};
+ghost use Rattle.isa.specs.Memory.{replaced};
+ghost use Rattle.isa.specs.Stores.{store_bytes, stored};
 
 use isa::instruction::{LoadWidth, StoreWidth};
 use words::bits::{bits, sign_extended};

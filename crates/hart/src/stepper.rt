@@ -1,18 +1,24 @@
-// A core that is stepped again and again. It remembers the page of its last fetch: while the TLB stays as it is, the next fetch there needs no look-up.
+// A core that is stepped again and again, with what it remembers for that: the page of its last fetch, which needs no look-up while the TLB stays as it is, and decodings.
 ghost use Rattle.std.specs.Prelude.{◌≡◌, ◌≤◌, None, option_map};
 ghost use Rattle.std.specs.Option.{ForSome};
-ghost use Rattle.words.specs.Costs.{highest, instruction, page_walk};
+ghost use Rattle.costs.specs.Costs.{instruction, worst_instruction};
+ghost use Rattle.costs.specs.Cycles.{cycles};
 ghost use Rattle.paging.specs.declared.access.Access.TheVariants.{Fetch};
 ghost use Rattle.tables.specs.Tlb.{found, hit};
-ghost use Rattle.hart.specs.Core.{faulted, later, looked_up, step_of, with_ran};
+ghost use Rattle.hart.specs.Core.{fetch_step, looked_up, on_time, stepped};
+ghost use Rattle.hart.specs.Moments.{run_until};
+ghost use Rattle.hart.specs.Scaffold.{faulted, moment};
 
-use crate::context::State;
 use crate::step::Core;
+use costs::used::Used;
+use costs::{INSTRUCTION, WORST_INSTRUCTION};
 use isa::decoder::Decoder;
 use paging::access::Access;
-use paging::translate::PAGE_BYTES;
+use paging::place::PAGE_BYTES;
 use tables::tlb::Lookup;
-use words::costs::{INSTRUCTION, WALK};
+
+// No instruction begins so late that it could take the clock past its 64 bits.
+const LATEST: u64 = u64::MAX - WORST_INSTRUCTION as u64 + 1;
 
 // A page that the TLB has and that words may be fetched from, and its frame.
 #[derive(Clone, Copy)]
@@ -34,6 +40,8 @@ impl Window {
 pub struct Stepper {
     pub core: Core,
     window: Option<Window>,
+    // no part of the machine: with any of them all is the same
+    decoder: Decoder,
     ghost at_hand: { ForSome window (λ w. found core.tables.tlb w.page Fetch None ≡ hit w.frame) },
 }
 
@@ -41,55 +49,100 @@ impl Stepper {
     pub fn new(core: Core) -> Self
         ensures { result.core ≡ core }
     {
-        Stepper { core, window: None }
-    }
-
-    // Runs one instruction, and answers the cycles that it took, by which the core's clock moves on.
-    pub fn step(&mut self, words: &mut [u32], decoder: &mut Decoder) -> u32
-        ensures cost { result ≡ (step_of self.old.core words.old).cost }
-        ensures least { instruction ≤ result }
-        ensures most { result ≤ highest }
-        ensures core { self.new.core ≡ later self.old.core (step_of self.old.core words.old) }
-        ensures words { words.new ≡ (step_of self.old.core words.old).words }
-    {
-        let cost = self.run(words, decoder);
-        self.core.clock = self.core.clock.wrapping_add(u64::from(cost));
-        cost
-    }
-
-    #[tactic(auto, unfolding(crate::specs::Core::stepped, crate::specs::Core::fetch_ran))]
-    fn run(&mut self, words: &mut [u32], decoder: &mut Decoder) -> u32
-        ensures cost { result ≡ (step_of self.old.core words.old).cost }
-        ensures least { instruction ≤ result }
-        ensures most { result ≤ highest }
-        ensures core { self.new.core ≡ with_ran self.old.core (step_of self.old.core words.old) }
-        ensures words { words.new ≡ (step_of self.old.core words.old).words }
-    {
-        if let State::Stopped { .. } = self.core.context.state {
-            return INSTRUCTION;
+        Stepper {
+            core,
+            window: None,
+            decoder: Decoder::new(),
         }
+    }
+
+    // The next program: nothing is kept but decodings.
+    pub fn load(&mut self, core: Core)
+        ensures { self.new.core ≡ core }
+    {
+        self.core = core;
+        self.window = None;
+    }
+
+    // One step, and the cycles that it took, by which the clock moves on. A stopped program uses up one cycle, and nothing else changes.
+    #[tactic(auto, using(crate::proofs::Stepping::fetch_most), unfolding(crate::specs::Core::stepped))]
+    pub fn step(&mut self, words: &mut [u32]) -> u32
+        ensures cost { result ≡ cycles (stepped self.old.core words.old).used }
+        ensures least { instruction ≤ result }
+        ensures most { result ≤ worst_instruction }
+        ensures core { self.new.core ≡ (stepped self.old.core words.old).core }
+        ensures words { words.new ≡ (stepped self.old.core words.old).words }
+    {
+        if self.core.context.state.is_ready() {
+            self.instruction(words)
+        } else {
+            self.core.clock = self.core.clock.wrapping_add(u64::from(INSTRUCTION));
+            INSTRUCTION
+        }
+    }
+
+    // Runs until the clock has come to `stop`, and answers how many instructions began. None begins from then on, and a stopped program waits.
+    // A loop by the clock, which no range or iterator counts. Whether the program is ready is read once for each instruction.
+    pub fn run_until(&mut self, words: &mut [u32], stop: u64) -> u64
+        ensures { moment self.new.core words.new result ≡ run_until stop self.old.core words.old }
+    {
+        let last = stop.min(LATEST);
+        let mut instructions = 0;
+        while self.core.clock < last && self.core.context.state.is_ready() {
+            self.instruction(words);
+            instructions += 1;
+        }
+        self.core.clock = self.core.clock.max(last);
+        instructions
+    }
+
+    // An instruction of a ready program, and the cycles that it took.
+    #[inline]
+    fn instruction(&mut self, words: &mut [u32]) -> u32
+        ensures cost { result ≡ cycles (fetch_step self.old.core words.old).used }
+        ensures core { self.new.core ≡ (on_time (fetch_step self.old.core words.old)).core }
+        ensures words { words.new ≡ (fetch_step self.old.core words.old).words }
+    {
+        let cycles = self.fetch_and_run(words).cycles();
+        self.core.clock = self.core.clock.wrapping_add(u64::from(cycles));
+        cycles
+    }
+
+    #[inline]
+    #[tactic(auto, unfolding(crate::specs::Core::fetch_step))]
+    fn fetch_and_run(&mut self, words: &mut [u32]) -> Used
+        ensures used { result ≡ (fetch_step self.old.core words.old).used }
+        ensures core { self.new.core ≡ (fetch_step self.old.core words.old).core }
+        ensures words { words.new ≡ (fetch_step self.old.core words.old).words }
+    {
         let found = self.fetch(words);
         let Some(frame) = found.frame else {
-            return INSTRUCTION + found.cost;
+            return Used {
+                fetch_walked: found.walked,
+                ..Used::plain()
+            };
         };
-        let extra = self.core.run_in(frame, words, decoder);
-        if extra >= WALK {
+        let used = self.core.run_in(frame, words, &mut self.decoder);
+        if used.data_walked {
             self.window = None;
         }
-        INSTRUCTION + found.cost + extra
+        Used {
+            fetch_walked: found.walked,
+            ..used
+        }
     }
 
     // Finds the frame of the page at the counter, as `Core::look_up` does.
+    #[inline]
     fn fetch(&mut self, words: &[u32]) -> Lookup
-        ensures found { result ≡ looked_up self.old.core.tables words.now self.old.core.root self.old.core.context.pc Fetch }
-        ensures most { result.cost ≤ page_walk }
+        ensures found { result ≡ looked_up self.old.core words.now self.old.core.context.pc Fetch }
         ensures core { self.new.core ≡ faulted self.old.core words.now self.old.core.context.pc Fetch result.frame }
     {
         let page = self.core.context.pc / PAGE_BYTES;
         match self.window {
             Some(window) if window.page == page => Lookup {
                 frame: Some(window.frame),
-                cost: 0,
+                walked: false,
             },
             _ => self.open(words),
         }
@@ -98,8 +151,7 @@ impl Stepper {
     // Looks the page up and remembers it. A call of its own: in place it would take the loop's registers.
     #[inline(never)]
     fn open(&mut self, words: &[u32]) -> Lookup
-        ensures found { result ≡ looked_up self.old.core.tables words.now self.old.core.root self.old.core.context.pc Fetch }
-        ensures most { result.cost ≤ page_walk }
+        ensures found { result ≡ looked_up self.old.core words.now self.old.core.context.pc Fetch }
         ensures core { self.new.core ≡ faulted self.old.core words.now self.old.core.context.pc Fetch result.frame }
     {
         let pc = self.core.context.pc;

@@ -7,7 +7,7 @@ use Rattle.std.proofs.lemmas.Bool.{lt-ltb, le-ltb, cond-true, cond-false}
 use Rattle.words.specs.Bits.{signed, complement}
 use Rattle.words.proofs.Signs.{signs}
 use Rattle.isa.specs.Encoding.{Within}
-use Rattle.isa.specs.Meaning.{remainder}
+use Rattle.isa.specs.Integers.{remainder}
 
 signed_is : (k n : ℕ) → n < 2 ^ k → signed k n ≡ complement k n
 signed_is k n h = rw (div-one n, mod-eq_of_lt h)

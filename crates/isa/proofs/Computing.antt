@@ -10,7 +10,7 @@ use Rattle.isa.specs.declared.instruction.Operation.TheVariants.{ShiftRightArith
 use Rattle.words.proofs.Signs.{signs}
 use Rattle.isa.specs.Encoding.{Within}
 use Rattle.isa.proofs.Complement.{signed_of_bits}
-use Rattle.isa.specs.Meaning.{computed}
+use Rattle.isa.specs.Operations.{computed}
 use Rattle.isa.specs.Laws.{Undoes, Orders, RoundsDown}
 
 pub undoes : Undoes

@@ -1,5 +1,5 @@
 -- The word of each lawful instruction decodes to it.
-use Rattle.std.proofs.Common.{◌≡◌, ℕ, ◌+◌, ◌*◌, ◌/◌, ◌%◌, ◌^◌, ◌<◌, eqb, ℤ, pos, negsuc, Some, None, Option, refl, ap, ◌∙◌, inl, inr, arith}
+use Rattle.std.proofs.Common.{rules, ◌≡◌, ℕ, ◌+◌, ◌*◌, ◌/◌, ◌%◌, ◌^◌, ◌<◌, eqb, ℤ, pos, negsuc, Some, None, Option, refl, ap, ◌∙◌, inl, inr, arith}
 use Rattle.std.proofs.lemmas.Int.{ints}
 use Rattle.std.proofs.lemmas.Bool.{cond-true, eq-eqb, and_from}
 use Rattle.std.specs.Option.{option_or}
@@ -10,12 +10,17 @@ use Rattle.isa.specs.declared.instruction.Instruction.{Instruction}
 use Rattle.isa.specs.declared.instruction.Instruction.TheVariants.{Lui, Auipc, Jal, Jalr, Branch, Load, Store, RegisterImmediate, RegisterRegister, ReadCounter}
 use Rattle.isa.specs.Registers.{register}
 use Rattle.isa.specs.Formats.{opcode, rd, funct3, rs1, rs2, funct7, i_bits, u_immediate, u_format, i_format}
-use Rattle.isa.specs.Meaning.{remainder}
-use Rattle.isa.specs.Tables.{Listed, Major, opcode_of, majors, condition_number, conditions, load_number, loads, store_number, stores, operation_number, operations, funct3_of, funct7_of, constants, shifts, counter_number, counters}
-use Rattle.isa.specs.Decoding.{constant, shift, in_major, decoded}
+use Rattle.isa.specs.Integers.{remainder}
+use Rattle.isa.specs.Tables.{Listed}
+use Rattle.isa.specs.Operations.{operation_number, operations, funct3_of, funct7_of, constants, shifts}
+use Rattle.isa.specs.Conditions.{condition_number, conditions}
+use Rattle.isa.specs.Loads.{load_number, loads}
+use Rattle.isa.specs.Stores.{store_number, stores}
+use Rattle.isa.specs.Counters.{counter_number, counters}
+use Rattle.isa.specs.Decoding.{Major, opcode_of, majors, constant, shift, in_major, decoded}
 use Rattle.isa.specs.Encoding.{encoding, Within, Lawful}
 use Rattle.isa.proofs.Complement.{bits_below, signed_of_bits, zeros}
-use Rattle.isa.proofs.Rows.{finds, meets, plain, apart, condition_row, load_row, store_row, counter_row, operation_row}
+use Rattle.isa.proofs.Rows.{finds, meets, plain, apart, Row, operation_listed}
 use Rattle.isa.proofs.Same.{below, same_register}
 use Rattle.isa.proofs.Words.{Made, r_made, i_made, s_made, b_made, u_made, j_made}
 
@@ -43,7 +48,7 @@ module _ (w : ℕ) (k : Operation) (d r : Register) (z : ℤ) where
   constant_back : Listed funct3_of constants k → Within 12 z → encoding (RegisterImmediate k d r z) ≡ w → Back w (RegisterImmediate k d r z)
   constant_back listed h q =
       let none = plain k listed in
-      let m = i_back w (remainder 12 z) (funct3_of k) 0x13 r d (operation_row k).1 (omega arith) (bits_below 12 z) (omega arith) in
+      let m = i_back w (remainder 12 z) (funct3_of k) 0x13 r d (operation_listed k).1 (omega arith) (bits_below 12 z) (omega arith) in
       let s = ap (signed 12) m.1 ∙ signed_of_bits 12 z (omega arith) h in
       let c : constant w ≡ Some (RegisterImmediate k d r z) = meets funct3_of constants _ (funct3 w) k m.0.in_funct3 listed ∙ cc in
       (m.0.word, major w Major.OPIMM _ m.0.in_opcode refl (ap (λ o. option_or o (shift w)) c))
@@ -51,7 +56,7 @@ module _ (w : ℕ) (k : Operation) (d r : Register) (z : ℤ) where
 shift_back : (w : ℕ) (k : Operation) (d r : Register) (n : ℕ) → Listed operation_number shifts k → n < 32 → encoding (RegisterImmediate k d r (pos n)) ≡ w →
     Back w (RegisterImmediate k d r (pos n))
 shift_back w k d r n listed small q =
-    let t = operation_row k in
+    let t = operation_listed k in
     let m = i_back w (funct7_of k * 32 + n % 2 ^ 12) (funct3_of k) 0x13 r d t.1 (omega arith) (omega arith) q in
     let amount : field w 20 5 ≡ n = m.0.in_rs2 ∙ omega arith in
     let both : funct7 w * 8 + funct3 w ≡ operation_number k = omega (arith, m.0.in_funct7, m.0.in_funct3) in
@@ -76,19 +81,19 @@ back w (Jalr d b z) h q =
     let s = ap (signed 12) m.1 ∙ signed_of_bits 12 z (omega arith) h in
     (m.0.word, major w Major.JALR _ m.0.in_opcode refl (cond-true _ _ _ (eq-eqb (funct3 w) 0 m.0.in_funct3) ∙ cc))
 back w (Branch c l r z) (h, e) q =
-    let k = condition_row c in
+    let k : Row condition_number conditions 8 c = search rules in
     let m = b_made w (remainder 13 z) (condition_number c) 0x63 k.1 (omega arith) r.index l.index (below r) (below l) (bits_below 13 z) (zeros 12 1 z (omega arith) h e) q in
     let r1 = same_register (rs1 w) l m.0.in_rs1 in
     let r2 = same_register (rs2 w) r m.0.in_rs2 in
     let s = ap (signed 13) m.1 ∙ signed_of_bits 13 z (omega arith) h in
     (m.0.word, major w Major.BRANCH _ m.0.in_opcode refl (meets condition_number conditions _ (funct3 w) c m.0.in_funct3 k.0 ∙ cc))
 back w (Load k d b z) h q =
-    let t = load_row k in
+    let t : Row load_number loads 8 k = search rules in
     let m = i_back w (remainder 12 z) (load_number k) 0x03 b d t.1 (omega arith) (bits_below 12 z) q in
     let s = ap (signed 12) m.1 ∙ signed_of_bits 12 z (omega arith) h in
     (m.0.word, major w Major.LOAD _ m.0.in_opcode refl (meets load_number loads _ (funct3 w) k m.0.in_funct3 t.0 ∙ cc))
 back w (Store k b r z) h q =
-    let t = store_row k in
+    let t : Row store_number stores 8 k = search rules in
     let m = s_made w (remainder 12 z) (store_number k) 0x23 t.1 (omega arith) r.index b.index (below r) (below b) (bits_below 12 z) q in
     let r1 = same_register (rs1 w) b m.0.in_rs1 in
     let r2 = same_register (rs2 w) r m.0.in_rs2 in
@@ -98,14 +103,14 @@ back w (RegisterImmediate k d r z) (inl (listed, h)) q = constant_back w k d r z
 back w (RegisterImmediate k d r (pos n)) (inr (listed, low, high)) q = shift_back w k d r n listed (omega (arith, ints)) q
 back w (RegisterImmediate k d r (negsuc n)) (inr (listed, low, high)) q = absurd low.le
 back w (RegisterRegister k d l r) h q =
-    let t = operation_row k in
+    let t = operation_listed k in
     let m = r_made w (funct7_of k) r.index l.index (funct3_of k) d.index 0x33 t.2 (below r) (below l) t.1 (below d) (omega arith) q in
     let r0 = same_register (rd w) d m.in_rd in
     let r1 = same_register (rs1 w) l m.in_rs1 in
     let r2 = same_register (rs2 w) r m.in_rs2 in
     (m.word, major w Major.OP _ m.in_opcode refl (meets operation_number operations _ (funct7 w * 8 + funct3 w) k (omega (arith, m.in_funct7, m.in_funct3)) t.0 ∙ cc))
 back w (ReadCounter d k) h q =
-    let t = counter_row k in
+    let t : Row counter_number counters (2 ^ 12) k = search rules in
     let m = i_back w (counter_number k) 2 0x73 (register 0) d (omega arith) (omega arith) t.1 q in
     let tests = and_from (eqb (funct3 w) 2) (eqb (field w 15 5) 0) (eq-eqb (funct3 w) 2 m.0.in_funct3) (eq-eqb (field w 15 5) 0 m.0.in_rs1) in
     (m.0.word, major w Major.SYSTEM _ m.0.in_opcode refl (cond-true _ _ _ tests ∙ meets counter_number counters _ (i_bits w) k m.1 t.0 ∙ cc))

@@ -14,12 +14,17 @@ use Rattle.isa.specs.declared.instruction.Counter.{Counter}
 use Rattle.isa.specs.declared.instruction.Instruction.{Instruction}
 use Rattle.isa.specs.declared.instruction.Instruction.TheVariants.{Lui, Auipc, Jal, Jalr, Branch, Load, Store, RegisterImmediate, RegisterRegister, ReadCounter}
 use Rattle.isa.specs.Formats.{opcode, rd, funct3, rs1, rs2, funct7, i_bits, s_bits, b_bits, u_bits, j_bits, i_immediate, s_immediate, b_immediate, u_immediate, j_immediate}
-use Rattle.isa.specs.Meaning.{remainder}
-use Rattle.isa.specs.Tables.{numbered, Listed, Major, opcode_of, majors, condition_number, conditions, load_number, loads, store_number, stores, operation_number, operations, funct3_of, funct7_of, constants, shifts, counter_number, counters}
-use Rattle.isa.specs.Decoding.{constant, shift, in_major, decoded}
+use Rattle.isa.specs.Integers.{remainder}
+use Rattle.isa.specs.Tables.{numbered, Listed}
+use Rattle.isa.specs.Operations.{operation_number, operations, funct3_of, funct7_of, constants, shifts}
+use Rattle.isa.specs.Conditions.{condition_number, conditions}
+use Rattle.isa.specs.Loads.{load_number, loads}
+use Rattle.isa.specs.Stores.{store_number, stores}
+use Rattle.isa.specs.Counters.{counter_number, counters}
+use Rattle.isa.specs.Decoding.{Major, opcode_of, majors, constant, shift, in_major, decoded}
 use Rattle.isa.specs.Encoding.{encoding, Within, Lawful}
 use Rattle.isa.proofs.Complement.{bits_of_signed, low_bits}
-use Rattle.isa.proofs.Rows.{and_some, found, plain, operation_row}
+use Rattle.isa.proofs.Rows.{and_some, found, plain, operation_listed}
 use Rattle.isa.proofs.Words.{r_word, i_word, s_word, b_word, u_word, j_word}
 
 -- the word of a lawful instruction
@@ -83,7 +88,7 @@ module _ (w : ℕ) (h : w < 2 ^ 32) where
 
   -- funct7 and funct3 in one number tell both
   both : (o : Operation) → funct7 w * 8 + funct3 w ≡ operation_number o → (funct7 w ≡ funct7_of o) × (funct3 w ≡ funct3_of o)
-  both o e = let small = (operation_row o).1 in (omega arith, omega arith)
+  both o e = let small = (operation_listed o).1 in (omega arith, omega arith)
 
   constant_of : (k : Operation) → opcode w ≡ opcode_of Major.OPIMM → funct3 w ≡ funct3_of k → Listed funct3_of constants k →
       Of w (RegisterImmediate k (rd w) (rs1 w) (i_immediate w))

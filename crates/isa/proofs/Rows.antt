@@ -1,13 +1,10 @@
 -- Rows of a table, and the numbers that find them.
-use Rattle.std.proofs.Common.{◌≡◌, ℕ, ◌^◌, ◌<◌, List, [], ◌∷◌, Some, None, Option, rules}
+use Rattle.std.proofs.Common.{◌≡◌, ℕ, ◌<◌, List, [], ◌∷◌, Some, None, Option, rules}
 use Rattle.std.proofs.lemmas.Option.{none-some}
 use Rattle.std.specs.Option.{option_and_then}
 use Rattle.isa.specs.declared.instruction.Operation.{Operation}
-use Rattle.isa.specs.declared.instruction.Condition.{Condition}
-use Rattle.isa.specs.declared.instruction.LoadWidth.{LoadWidth}
-use Rattle.isa.specs.declared.instruction.StoreWidth.{StoreWidth}
-use Rattle.isa.specs.declared.instruction.Counter.{Counter}
-use Rattle.isa.specs.Tables.{numbered, Listed, condition_number, conditions, load_number, loads, store_number, stores, operation_number, operations, funct3_of, funct7_of, constants, shifts, counter_number, counters}
+use Rattle.isa.specs.Tables.{numbered, Listed}
+use Rattle.isa.specs.Operations.{operation_number, operations, funct3_of, funct7_of, constants, shifts}
 
 -- what follows from a row comes from a row
 pub and_some : {A B : Type 0} (o : Option A) (f : A → Option B) (b : B) → option_and_then f o ≡ Some b → (a : A) × (o ≡ Some a) × (f a ≡ Some b)
@@ -27,23 +24,11 @@ module _ {A : Type 0} (number : A → ℕ) where
   meets rows f n a = finds rows f n (number a) (Some a)
 
 -- every condition, width, operation and counter is in its table, with a number that its field can hold
-abbrev Row : {A : Type 0} → (A → ℕ) → List A → ℕ → A → Type 0
+abbrev pub Row : {A : Type 0} → (A → ℕ) → List A → ℕ → A → Type 0
 Row number rows bound a = Listed number rows a × (number a < bound)
 
-pub condition_row : (c : Condition) → Row condition_number conditions 8 c
-condition_row c = search rules
-
-pub load_row : (s : LoadWidth) → Row load_number loads 8 s
-load_row s = search rules
-
-pub store_row : (s : StoreWidth) → Row store_number stores 8 s
-store_row s = search rules
-
-pub counter_row : (k : Counter) → Row counter_number counters (2 ^ 12) k
-counter_row k = search rules
-
-pub operation_row : (o : Operation) → Listed operation_number operations o × (funct3_of o < 8) × (funct7_of o < 128)
-operation_row o = search rules
+pub operation_listed : (o : Operation) → Listed operation_number operations o × (funct3_of o < 8) × (funct7_of o < 128)
+operation_listed o = search rules
 
 -- the operations with a constant have funct7 0, and no shift has the funct3 of one of them
 pub plain : (o : Operation) → Listed funct3_of constants o → funct7_of o ≡ 0

@@ -3,8 +3,14 @@ use Rattle.std.specs.Prelude.{◌≡◌, ℕ, ◌+◌, ◌-◌, ◌*◌, ◌^◌
 use Rattle.isa.specs.declared.instruction.Instruction.{Instruction}
 use Rattle.isa.specs.declared.instruction.Instruction.TheVariants.{Lui, Auipc, Jal, Jalr, Branch, Load, Store, RegisterImmediate, RegisterRegister, ReadCounter}
 use Rattle.isa.specs.Formats.{r_format, i_format, s_format, b_format, u_format, j_format}
-use Rattle.isa.specs.Meaning.{remainder}
-use Rattle.isa.specs.Tables.{Listed, Major, opcode_of, condition_number, jalr_number, load_number, store_number, operation_number, funct3_of, funct7_of, constants, shifts, counter_number, read_and_set, no_source}
+use Rattle.isa.specs.Integers.{remainder}
+use Rattle.isa.specs.Tables.{Listed}
+use Rattle.isa.specs.Operations.{operation_number, funct3_of, funct7_of, constants, shifts}
+use Rattle.isa.specs.Conditions.{condition_number}
+use Rattle.isa.specs.Loads.{load_number}
+use Rattle.isa.specs.Stores.{store_number}
+use Rattle.isa.specs.Counters.{counter_number, read_and_set, no_source}
+use Rattle.isa.specs.Decoding.{Major, opcode_of, jalr_number}
 
 abbrev pub encoding : Instruction → ℕ
 encoding (Lui rd value) = u_format (remainder 32 value) rd.index (opcode_of Major.LUI)

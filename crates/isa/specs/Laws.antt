@@ -9,7 +9,8 @@ use Rattle.isa.specs.declared.instruction.Operation.TheVariants.{Add, Sub, Shift
 use Rattle.isa.specs.declared.instruction.Condition.TheVariants.{Equal, NotEqual, Less, GreaterEqual, LessUnsigned, GreaterEqualUnsigned}
 use Rattle.isa.specs.declared.instruction.Instruction.{Instruction}
 use Rattle.isa.specs.Registers.{register, blank, held, written}
-use Rattle.isa.specs.Meaning.{computed, holds}
+use Rattle.isa.specs.Operations.{computed}
+use Rattle.isa.specs.Conditions.{holds}
 use Rattle.isa.specs.Decoding.{decoded}
 use Rattle.isa.specs.Encoding.{encoding, Lawful}
 

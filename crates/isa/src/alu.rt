@@ -1,6 +1,8 @@
 // The ALU: one function for operations with a constant and with a register.
 ghost use Rattle.std.specs.Prelude.{◌≡◌};
-ghost use Rattle.isa.specs.Meaning.{computed, remainder};
+ghost use Rattle.isa.specs.Effects.{offset_by};
+ghost use Rattle.isa.specs.Integers.{remainder};
+ghost use Rattle.isa.specs.Operations.{computed};
 
 use crate::instruction::Operation;
 
@@ -29,4 +31,11 @@ pub fn word_of(constant: i32) -> u32
     ensures { result ≡ remainder 32 constant }
 {
     constant.cast_unsigned()
+}
+
+// An address and an offset, which wrap at 2 ^ 32.
+pub fn offset_by(address: u32, offset: i32) -> u32
+    ensures { result ≡ offset_by address offset }
+{
+    address.wrapping_add(word_of(offset))
 }

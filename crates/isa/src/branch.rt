@@ -1,6 +1,6 @@
 // The conditions of branches.
 ghost use Rattle.std.specs.Prelude.{◌≡◌};
-ghost use Rattle.isa.specs.Meaning.{holds};
+ghost use Rattle.isa.specs.Conditions.{holds};
 
 use crate::instruction::Condition;
 

@@ -1,8 +1,7 @@
 // From words to instructions. Every word that the tables do not have is illegal.
 ghost use Rattle.std.specs.Prelude.{◌≡◌};
 ghost use Rattle.std.specs.Result.{result_ok};
-ghost use Rattle.std.specs.Option.{option_or};
-ghost use Rattle.isa.specs.Decoding.{branch, constant, decoded, jalr, load, read_counter, register_register, shift, store};
+ghost use Rattle.isa.specs.Decoding.{branch, decoded, jalr, load, read_counter, register_immediate, register_register, store};
 
 use crate::fields::*;
 use crate::instruction::*;
@@ -61,7 +60,7 @@ fn store(word: u32) -> Result<Instruction, Illegal>
 
 // An operation with a constant. The shifts are by 0 to 31; what stands above those five bits tells the right shifts apart.
 fn register_immediate(word: u32) -> Result<Instruction, Illegal>
-    ensures { result_ok result ≡ option_or (constant word) (shift word) }
+    ensures { result_ok result ≡ register_immediate word }
 {
     let amount = bits(word, 20, 5) as i32;
     let (operation, value) = match (funct3(word), bits(word, 20, 12)) {

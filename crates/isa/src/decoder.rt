@@ -4,11 +4,11 @@ ghost use Rattle.isa.specs.Decoding.{decoded};
 
 use crate::instruction::Instruction;
 
-const ENTRIES: usize = 1024;
+const REMEMBERED: usize = 1024;
 
 // A word, and what it decodes to.
 #[derive(Clone, Copy)]
-struct Known {
+struct Decoding {
     word: u32,
     instruction: Option<Instruction>,
     ghost right: { instruction ≡ decoded word },
@@ -17,7 +17,7 @@ struct Known {
 // Remembers words and what they decode to.
 #[derive(Clone, Copy)]
 pub struct Decoder {
-    known: [Known; ENTRIES],
+    decodings: [Decoding; REMEMBERED],
 }
 
 mod recall;

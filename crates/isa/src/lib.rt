@@ -3,6 +3,7 @@
 
 pub mod alu;
 pub mod branch;
+pub mod counter;
 pub mod decode;
 pub mod decoder;
 mod fields;

@@ -1,5 +1,10 @@
 // Reading the numbers of the manual's tables.
-ghost use Rattle.isa.specs.Tables.{ReadAs, ReadsOperation, condition_number, conditions, counter_number, counters, load_number, loads, store_number, stores};
+ghost use Rattle.isa.specs.Conditions.{condition_number, conditions};
+ghost use Rattle.isa.specs.Counters.{counter_number, counters};
+ghost use Rattle.isa.specs.Loads.{load_number, loads};
+ghost use Rattle.isa.specs.Operations.{ReadsOperation};
+ghost use Rattle.isa.specs.Stores.{store_number, stores};
+ghost use Rattle.isa.specs.Tables.{ReadAs};
 
 use crate::instruction::{Condition, Counter, LoadWidth, Operation, StoreWidth};
 

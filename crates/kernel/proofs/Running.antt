@@ -1,7 +1,7 @@
 -- Laws of the steps until a reading of the clock: enough of them lead there, and a stopped program waits.
 use Rattle.std.proofs.Common.{◌≡◌, ℕ, zero, suc, ◌+◌, ◌-◌, ◌%◌, ◌^◌, ◌<◌, ◌≤◌, max, false, ltb, ◌⊎◌, List, sym, refl, ap, ◌∙◌, inl, inr, add-zero, mod-eq_of_lt, arith}
 use Rattle.std.proofs.lemmas.Bool.{cases_lt, cond-true, cond-false, le-ltb, lt-ltb, true≢false}
-use Rattle.words.specs.Costs.{highest}
+use Rattle.costs.specs.Costs.{worst_instruction}
 use Rattle.hart.specs.declared.context.State.{State}
 use Rattle.hart.specs.declared.context.State.TheVariants.{Ready, Stopped}
 use Rattle.tables.specs.declared.Tables.{Tables}
@@ -15,9 +15,9 @@ use Rattle.kernel.specs.Shim.{Moment, next, until}
 pub record Moves (m : Moment) : Type 0 where
   pub by : (next m).core.clock ≡ m.core.clock + (step_of m.core m.words).cost
   pub least : m.core.clock < (next m).core.clock
-  pub most : (next m).core.clock ≤ m.core.clock + highest
+  pub most : (next m).core.clock ≤ m.core.clock + worst_instruction
 
-pub moves : (m : Moment) → m.core.clock + highest < 2 ^ 64 → Moves m
+pub moves : (m : Moment) → m.core.clock + worst_instruction < 2 ^ 64 → Moves m
 moves m room =
     let s = steps m.core.context m.core.tables m.words m.core.root m.core.clock in
     let most : (step_of m.core m.words).cost ≤ 91 = s.most in
@@ -32,7 +32,7 @@ idle (Stopped cause pc) x t ws root clock e = refl
 abbrev pub waited : Moment → ℕ → Moment
 waited m clock = record m { core = record m.core { clock = clock } }
 
-pub idles : (m : Moment) → m.core.clock + highest < 2 ^ 64 → is_ready m.core.context.state ≡ false → next m ≡ waited m (m.core.clock + 1)
+pub idles : (m : Moment) → m.core.clock + worst_instruction < 2 ^ 64 → is_ready m.core.context.state ≡ false → next m ≡ waited m (m.core.clock + 1)
 unfolding stepped
 idles m room e =
     let short : (m.core.clock + 1) % 2 ^ 64 ≡ m.core.clock + 1 = mod-eq_of_lt (omega (arith, room)) in
@@ -48,7 +48,7 @@ module _ (stop : ℕ) where
   unfolding until
   until_step n m l = cond-true (ltb m.core.clock stop) _ _ (lt-ltb m.core.clock stop l)
 
-  module _ (room : stop + highest < 2 ^ 64) where
+  module _ (room : stop + worst_instruction < 2 ^ 64) where
     goes : (m : Moment) → m.core.clock < stop → Moves m
     goes m l = moves m (omega (arith, room))
 
@@ -91,7 +91,7 @@ module _ (stop : ℕ) where
     done m (inr e) = sym (waits (stop - m.core.clock) m e (omega arith))
 
     -- the last instruction may begin in the last cycle
-    pub until_most : (n : ℕ) (m : Moment) → m.core.clock < stop + highest → (until stop n m).core.clock < stop + highest
+    pub until_most : (n : ℕ) (m : Moment) → m.core.clock < stop + worst_instruction → (until stop n m).core.clock < stop + worst_instruction
     unfolding until
     until_most zero m l = l
     until_most (suc n) m l = elim (cases_lt m.core.clock stop) [

@@ -1,7 +1,7 @@
 -- The switch after a slot: its copies, and the cycles of its work.
 use Rattle.std.specs.Prelude.{ℕ, ◌+◌, ◌*◌, cond, ◌&&◌, List, fold}
 use Rattle.std.proofs.Math.Seq.{paste}
-use Rattle.words.specs.Costs.{write_back}
+use Rattle.costs.specs.Costs.{write_back}
 use Rattle.words.specs.Frames.{contents, lent}
 use Rattle.tables.specs.declared.Tables.{Tables}
 use Rattle.tables.specs.Cache.{dirty_count}

@@ -13,7 +13,7 @@ use hart::stepper::Stepper;
 use isa::decoder::Decoder;
 use plan::model::{MOST_PARTITIONS, Plan};
 use tables::Tables;
-use words::costs::WRITE_BACK;
+use costs::WRITE_BACK;
 
 // No slot begins once the clock has come to this.
 const LATEST: u64 = 1 << 63;

@@ -1,31 +1,25 @@
 -- A translation answers the place that the access reaches.
-use Rattle.std.proofs.Common.{◌≡◌, ℕ, ◌/◌, ◌%◌, Bool, true, false, cond, List, Some, None, Ok, Err, Decides, Option, Result, sym, refl, ap, subst, arith}
+use Rattle.std.proofs.Common.{rules, ◌≡◌, ℕ, ◌/◌, ◌%◌, Bool, true, cond, List, Some, None, Ok, Err, Decides, Option, Result, sym, refl, ap, subst, arith}
 use Rattle.std.proofs.lemmas.Nat.{mod_below}
-use Rattle.std.proofs.lemmas.Bool.{and_parts, and_from}
 use Rattle.paging.specs.declared.access.Access.{Access}
-use Rattle.paging.specs.declared.access.Access.TheVariants.{Fetch, Load, Store}
 use Rattle.paging.specs.declared.leaf.Leaf.{Leaf}
-use Rattle.paging.specs.declared.translate.PageFault.{PageFault}
-use Rattle.paging.specs.declared.translate.Place.{Place}
-use Rattle.paging.specs.Accesses.{page_fault, permitted, place_in}
+use Rattle.paging.specs.declared.place.Place.{Place}
+use Rattle.paging.specs.Accesses.{PageFault, page_fault, permitted, place_in}
 use Rattle.paging.specs.Walks.{then_place, translated, walked}
 use Rattle.paging.specs.Mapping.{Allows, Reaches, Translates}
+use Rattle.paging.specs.Laws.{TranslationsReach}
 use Rattle.paging.proofs.Found.{maps_walk, walk_maps}
 
 pub permitted_tells : (leaf : Leaf) (access : Access) → Decides (permitted leaf access) (Allows leaf access)
-permitted_tells leaf Fetch = ((λ e. e), λ e. e)
-permitted_tells leaf Load = ((λ e. e), λ e. e)
-permitted_tells leaf Store = (and_parts leaf.readable leaf.writable, λ e. and_from leaf.readable leaf.writable e.0 e.1)
+permitted_tells leaf access = search rules
 
 -- an answer or a fault, as a test tells
 module _ {X E : Type 0} (x : X) (e : E) where
   tested_ok : (test : Bool) (y : X) → cond test (Ok x) (Err e) ≡ Ok y → (test ≡ true) × (x ≡ y)
-  tested_ok true y h = (refl, cc)
-  tested_ok false y h = (cc, cc)
+  tested_ok test y h = search rules
 
   tested_err : (test : Bool) (d : E) → cond test (Ok x) (Err e) ≡ Err d → e ≡ d
-  tested_err true d h = cc
-  tested_err false d h = cc
+  tested_err test d h = search rules
 
 module _ (address : ℕ) (access : Access) where
   placed_through : (o : Option Leaf) (place : Place) → then_place address access o ≡ Ok place → (leaf : Leaf) × (o ≡ Some leaf) × Allows leaf access × (place_in leaf.frame address ≡ place)
@@ -66,3 +60,6 @@ module _ (ws : List ℕ) (root address : ℕ) (access : Access) where
 
   pub translates : (answer : Result Place PageFault) → answer ≡ translated ws root address access → Translates ws root address access answer
   translates answer is = rw is (record { reaches = reaches; placed = placed; faults = faults })
+
+pub translations_reach : TranslationsReach
+translations_reach ws root address access = translates ws root address access (translated ws root address access) refl

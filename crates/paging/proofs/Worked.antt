@@ -6,4 +6,4 @@ use Rattle.paging.specs.Example.{Example}
 
 pub worked : Example
 unfolding flag translated walked
-worked = record { mapped = refl; not_mapped = refl; fetched = refl; loaded = refl; not_stored = refl }
+worked = record { runs = refl; stores = refl; not_mapped = refl; not_lent = refl; fetched = refl; loaded = refl; not_stored = refl }

@@ -3,8 +3,7 @@ use Rattle.std.specs.Prelude.{ℕ, ◌%◌, Bool, cond, ◌&&◌, Ok, Err, Resul
 use Rattle.paging.specs.declared.access.Access.{Access}
 use Rattle.paging.specs.declared.access.Access.TheVariants.{Fetch, Load, Store}
 use Rattle.paging.specs.declared.leaf.Leaf.{Leaf}
-use Rattle.paging.specs.declared.translate.PageFault.{PageFault}
-use Rattle.paging.specs.declared.translate.Place.{Place}
+use Rattle.paging.specs.declared.place.Place.{Place}
 
 -- a fetch needs X, a load R, a store R and W
 abbrev pub permitted : Leaf → Access → Bool
@@ -15,6 +14,10 @@ permitted leaf Store = leaf.readable && leaf.writable
 -- the byte of a frame that the low twelve bits of an address tell
 abbrev pub place_in : ℕ → ℕ → Place
 place_in frame address = record { frame = frame; offset = address % 4096 }
+
+-- no page maps the address and permits the access
+pub record PageFault : Type 0 where
+  pub access : Access
 
 abbrev pub page_fault : Access → PageFault
 page_fault access = record { access = access }

@@ -3,11 +3,12 @@ use Rattle.std.specs.Prelude.{◌≡◌, ℕ, ◌+◌, ◌*◌, ◌^◌, ◌<◌
 use Rattle.words.specs.Bits.{field}
 use Rattle.words.specs.First.{weight}
 use Rattle.words.specs.Frames.{lent, word, written}
+use Rattle.paging.specs.declared.access.Access.{Access}
 use Rattle.paging.specs.declared.leaf.Leaf.{Leaf}
 use Rattle.paging.specs.Entries.{flag, frame_of, is_accessed, is_dirty, is_executable, is_readable, is_user, is_valid, is_writable}
-use Rattle.paging.specs.Mapping.{Finds, LeafEntry, Maps, Pointer}
+use Rattle.paging.specs.Mapping.{Finds, LeafEntry, Maps, Pointer, Translates}
 use Rattle.paging.specs.Tables.{Alike, KernelFrame, Names, SameTables}
-use Rattle.paging.specs.Walks.{walked}
+use Rattle.paging.specs.Walks.{translated, walked}
 
 -- an entry is the sum of its fields: V, R, W, X, U, G, A and D from bit 0 on, two bits for software, and the frame
 abbrev pub EntriesAddUp : Type 0
@@ -20,6 +21,10 @@ EntriesAddUp =
 -- a walk answers a leaf if and only if the page maps to it
 abbrev pub WalksFind : Type 0
 WalksFind = (words : List ℕ) (root page : ℕ) → Finds words root page (walked words root page)
+
+-- an access to an address comes to a place if and only if it reaches it
+abbrev pub TranslationsReach : Type 0
+TranslationsReach = (words : List ℕ) (root address : ℕ) (access : Access) → Translates words root address access (translated words root address access)
 
 -- a page maps to one leaf at most
 abbrev pub OneLeaf : Type 0

@@ -5,4 +5,5 @@ pub mod Walks
 pub mod Mapping
 pub mod Tables
 pub mod Laws
+pub mod Small
 pub mod Example

@@ -4,8 +4,8 @@ use Rattle.words.specs.Frames.{word}
 use Rattle.paging.specs.declared.access.Access.{Access}
 use Rattle.paging.specs.declared.access.Access.TheVariants.{Fetch, Load, Store}
 use Rattle.paging.specs.declared.leaf.Leaf.{Leaf}
-use Rattle.paging.specs.declared.translate.PageFault.{PageFault}
-use Rattle.paging.specs.declared.translate.Place.{Place}
+use Rattle.paging.specs.declared.place.Place.{Place}
+use Rattle.paging.specs.Accesses.{PageFault}
 use Rattle.paging.specs.Entries.{frame_of, is_accessed, is_dirty, is_executable, is_readable, is_user, is_valid, is_writable}
 
 -- one of the 256 frames, and all of its words are lent

@@ -3,9 +3,8 @@ use Rattle.std.specs.Prelude.{ℕ, ◌/◌, ◌%◌, Bool, cond, ◌&&◌, List,
 use Rattle.words.specs.Frames.{lent, word}
 use Rattle.paging.specs.declared.access.Access.{Access}
 use Rattle.paging.specs.declared.leaf.Leaf.{Leaf}
-use Rattle.paging.specs.declared.translate.PageFault.{PageFault}
-use Rattle.paging.specs.declared.translate.Place.{Place}
-use Rattle.paging.specs.Accesses.{page_fault, place_through}
+use Rattle.paging.specs.declared.place.Place.{Place}
+use Rattle.paging.specs.Accesses.{PageFault, page_fault, place_through}
 use Rattle.paging.specs.Entries.{frame_of, is_pointer, leaf_of}
 
 -- whether a walk may go to a frame: below 256, and lent

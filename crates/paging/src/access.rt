@@ -1,5 +1,5 @@
 // What a program wants of a page.
-#[derive(Clone, Copy, PartialEq, Eq, Debug)]
+#[derive(Clone, Copy)]
 pub enum Access {
     Fetch,
     Load,

@@ -1,10 +1,11 @@
 // What the definitions of this crate come to, owed by this function's contract.
 ghost use Rattle.paging.specs.Example.{Example};
-ghost use Rattle.paging.specs.Laws.{EntriesAddUp, LeavesNamed, Local, OneLeaf, PagesEnd, TablesDecide, WalksFind, WritesApart};
+ghost use Rattle.paging.specs.Laws.{EntriesAddUp, LeavesNamed, Local, OneLeaf, PagesEnd, TablesDecide, TranslationsReach, WalksFind, WritesApart};
 
 pub fn laws()
     ensures entries { EntriesAddUp }
     ensures walks { WalksFind }
+    ensures translations { TranslationsReach }
     ensures unique { OneLeaf }
     ensures pages { PagesEnd }
     ensures reads { Local }

@@ -3,7 +3,7 @@ use Rattle.std.proofs.Common.{◌≡◌, ℕ, zero, suc, ◌+◌, ◌*◌, ◌<�
 use Rattle.std.proofs.lemmas.Bool.{cases_Bool, cases_lt, eq-eqb, eqb-true}
 use Rattle.std.proofs.lemmas.List.Elements.{Contains-append_left, Contains-push, Contains-push_cases}
 use Rattle.std.proofs.lemmas.List.Sums.{sum_by_push}
-use Rattle.words.specs.Costs.{copied_word, switch}
+use Rattle.costs.specs.Costs.{copied_word, worst_switch}
 use Rattle.words.specs.First.{count, most}
 use Rattle.plan.specs.declared.model.Plan.{Plan}
 use Rattle.plan.specs.Places.{channel, channels_out, leaves}
@@ -55,7 +55,7 @@ pub copies_are_messages : CopiesAreMessages
 copies_are_messages p who c = (is p who p.counts.channels (omega arith) c, back p who c)
 
 -- the longest switch is that with the most copies
-pub longest : (work : ℕ → ℕ) (n : ℕ) → max (most (λ who. switch + work who) n) switch ≡ switch + most work n
+pub longest : (work : ℕ → ℕ) (n : ℕ) → max (most (λ who. worst_switch + work who) n) worst_switch ≡ worst_switch + most work n
 unfolding most
 longest work zero = refl
 longest work (suc n) = omega (arith, longest work n)

@@ -2,7 +2,7 @@
 use Rattle.std.proofs.Common.{◌≡◌, ℕ, zero, suc, ◌+◌, ◌<◌, ◌≤◌, Bool, true, false, List, get_or, None, Some, Decides, sym, refl, ap, ◌∙◌, subst, inl, inr, arith}
 use Rattle.std.proofs.lemmas.Bool.{cases_eq, leb-true}
 use Rattle.std.proofs.lemmas.Bool.Decides.{nat_tests}
-use Rattle.words.specs.Costs.{switch}
+use Rattle.costs.specs.Costs.{worst_switch}
 use Rattle.words.specs.First.{first, most}
 use Rattle.words.proofs.First.{most_bound, none_below}
 use Rattle.plan.specs.declared.model.Plan.{Plan}
@@ -11,7 +11,7 @@ use Rattle.plan.specs.declared.refusal.Count.TheVariants.{Partitions, Slots, Cha
 use Rattle.plan.specs.declared.refusal.Refusal.{Refusal}
 use Rattle.plan.specs.declared.refusal.Refusal.TheVariants.{Truncated, CountRange, SlotRule, ChannelRule, ChannelPage, RootRule, TableMalformed, FrameShared, StartMisaligned, BudgetRule, FramesMissing, Surplus}
 use Rattle.plan.specs.Format.{plan_of}
-use Rattle.plan.specs.Refused.{AllRanked, Named, RankTells, Ranked, count_at, count_place, number_of, place_in, place_of, rank, refusal, turns}
+use Rattle.plan.specs.Refused.{AllRanked, Named, RankTells, Ranked, count_at, count_place, number_of, index_in, place_of, rank, refusal, turns}
 use Rattle.plan.specs.Rules.{broken_unless, budget_fault, budget_kept, channel_fault, channel_kept, count_fault, count_kept, slot_fault, slot_kept, start_fault, start_kept, surplus, truncated}
 use Rattle.plan.specs.Switch.{copies, copy_cycles, required_budget}
 use Rattle.plan.proofs.Copying.{cycles_of}
@@ -42,7 +42,7 @@ named FramesMissing = refl
 named (Surplus at) = refl
 
 pub all_ranked : AllRanked
-unfolding place_in
+unfolding index_in
 all_ranked (Truncated at) = record { some = omega arith; asked = refl }
 all_ranked (CountRange c) = record { some = omega arith; asked = refl }
 all_ranked (SlotRule k) = record { some = omega arith; asked = refl }
@@ -81,7 +81,7 @@ pub start_decides : (p : Plan) (k : ℕ) → Decides (start_kept p k) (StartFits
 start_decides p k = ((λ e. grind (arith, nat_tests)), λ f. grind (arith, nat_tests))
 
 -- a budget that covers the switch after every partition's slot covers the longest
-longest_covered : (work : ℕ → ℕ) (n budget : ℕ) → switch ≤ budget → ((who : ℕ) → who < n → switch + work who ≤ budget) → switch + most work n ≤ budget
+longest_covered : (work : ℕ → ℕ) (n budget : ℕ) → worst_switch ≤ budget → ((who : ℕ) → who < n → worst_switch + work who ≤ budget) → worst_switch + most work n ≤ budget
 unfolding most
 longest_covered work zero budget alone each = omega (arith, alone)
 longest_covered work (suc n) budget alone each = omega (arith, longest_covered work n budget alone (λ who l. each who (omega arith)), each n (omega arith))

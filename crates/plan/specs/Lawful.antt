@@ -1,7 +1,7 @@
 -- The rules of a plan that need no memory, each a sentence of its own. No order stands in them; the one thing that is
 -- counted is how many channels lead out of a partition.
 use Rattle.std.specs.Prelude.{◌≡◌, ℕ, ◌+◌, ◌*◌, ◌%◌, ◌<◌, ◌≤◌, ◌≢◌, List, length}
-use Rattle.words.specs.Costs.{copied_word, switch}
+use Rattle.costs.specs.Costs.{copied_word, worst_switch}
 use Rattle.plan.specs.declared.model.Plan.{Plan}
 use Rattle.plan.specs.declared.refusal.Count.{Count}
 use Rattle.plan.specs.declared.refusal.Count.TheVariants.{Partitions, Slots, Channels}
@@ -32,8 +32,8 @@ StartFits p k = (partition p k).start % 4 ≡ 0
 -- channels out of it
 abbrev pub BudgetFits : Plan → Type 0
 BudgetFits p =
-    (64 ≤ p.budget) × (p.budget ≤ 100000) × (switch ≤ p.budget)
-    × ((who : ℕ) → who < p.counts.partitions → switch + 1024 * copied_word * channels_out p who ≤ p.budget)
+    (64 ≤ p.budget) × (p.budget ≤ 100000) × (worst_switch ≤ p.budget)
+    × ((who : ℕ) → who < p.counts.partitions → worst_switch + 1024 * copied_word * channels_out p who ≤ p.budget)
 
 -- bytes that keep every rule
 pub record PlanLawful (bytes : List ℕ) : Type 0 where

@@ -23,14 +23,14 @@ number_of (Surplus at) = 12
 abbrev pub turns : List ℕ
 turns = 1 ∷ 2 ∷ 3 ∷ 4 ∷ 5 ∷ 6 ∷ 7 ∷ 8 ∷ 9 ∷ 10 ∷ 11 ∷ 12 ∷ []
 
--- the place of a number in a list, the list's length where it does not stand there
-unfoldable pub place_in : List ℕ → ℕ → ℕ
-place_in [] n = 0
-place_in (m ∷ ms) n = cond (m == n) 0 (suc (place_in ms n))
+-- the index of a number in a list, the list's length where it does not stand there
+unfoldable pub index_in : List ℕ → ℕ → ℕ
+index_in [] n = 0
+index_in (m ∷ ms) n = cond (m == n) 0 (suc (index_in ms n))
 
 -- in which turn the rule with a number is asked
 abbrev pub rank : ℕ → ℕ
-rank number = place_in turns number
+rank number = index_in turns number
 
 -- every rule has a turn, in which it is asked
 pub record Ranked (number : ℕ) : Type 0 where

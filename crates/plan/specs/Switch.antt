@@ -1,6 +1,6 @@
 -- What a switch makes: the copies after a slot of a partition, the cycles that they take, and the budget that covers every switch.
 use Rattle.std.specs.Prelude.{◌≡◌, ℕ, zero, suc, ◌+◌, ◌*◌, ◌<◌, cond, ◌↔◌, List, [], ◌∷◌, ◌++◌, sum_by, Contains}
-use Rattle.words.specs.Costs.{copied_word, switch}
+use Rattle.costs.specs.Costs.{copied_word, worst_switch}
 use Rattle.words.specs.First.{most}
 use Rattle.plan.specs.declared.model.Endpoint.{Endpoint}
 use Rattle.plan.specs.declared.model.Plan.{Plan}
@@ -32,7 +32,7 @@ copy_cycles = sum_by (λ c. copied_word * c.words)
 
 -- the least budget that covers every switch: the rest of the last instruction, the write-back of every line, and the most copies
 abbrev pub required_budget : Plan → ℕ
-required_budget p = switch + most (λ who. copy_cycles (copies p who)) p.counts.partitions
+required_budget p = worst_switch + most (λ who. copy_cycles (copies p who)) p.counts.partitions
 
 -- a copy is that of a channel out of a partition
 pub record IsMessage (p : Plan) (who : ℕ) (c : Copy) : Type 0 where

@@ -4,6 +4,7 @@ ghost use Rattle.plan.specs.Refused.{AllRanked, Named, RankTells};
 ghost use Rattle.plan.specs.Rules.{FrontTellsAll};
 ghost use Rattle.plan.specs.Switch.{CopiesAreMessages};
 ghost use Rattle.plan.specs.Timetable.{Bounded, Rounds};
+ghost use Rattle.plan.specs.Written.{ReadsBack};
 
 pub fn laws()
     ensures named { Named }
@@ -12,6 +13,7 @@ pub fn laws()
     ensures rounds { Rounds }
     ensures bounded { Bounded }
     ensures front_tells_all { FrontTellsAll }
+    ensures reads_back { ReadsBack }
     ensures copies { CopiesAreMessages }
     ensures example { Example }
 {}

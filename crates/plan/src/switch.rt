@@ -1,11 +1,11 @@
 // What a switch makes after a slot of a partition, and the budget that covers every switch.
 ghost use Rattle.std.specs.Prelude.{◌≡◌, ◌+◌, ◌*◌, ◌≤◌};
-ghost use Rattle.words.specs.Costs.{copied_word, switch};
+ghost use Rattle.costs.specs.Costs.{copied_word, worst_switch};
 ghost use Rattle.plan.specs.Places.{channels_out};
 ghost use Rattle.plan.specs.Switch.{copies, copy_cycles, required_budget};
 
 use crate::model::Plan;
-use words::costs::{COPIED_WORD, SWITCH};
+use costs::{COPIED_WORD, WORST_SWITCH};
 use words::frames::FRAME_WORDS;
 
 impl Plan {
@@ -30,9 +30,9 @@ impl Plan {
     // The most cycles from the end of a slot of a partition to that of its switch: the rest of the last instruction, the write-back
     // of every line, and the copies.
     fn longest_switch(&self, who: u8) -> u32
-        ensures { result ≡ switch + copy_cycles (copies self.now who) }
+        ensures { result ≡ worst_switch + copy_cycles (copies self.now who) }
     {
-        SWITCH + self.copy_cycles(who)
+        WORST_SWITCH + self.copy_cycles(who)
     }
 
     // The least budget that covers every switch.
@@ -43,6 +43,6 @@ impl Plan {
             .map(|who| self.longest_switch(who))
             .max()
             .unwrap_or(0)
-            .max(SWITCH)
+            .max(WORST_SWITCH)
     }
 }

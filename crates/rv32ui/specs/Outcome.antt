@@ -7,11 +7,11 @@ use Rattle.rv32ui.specs.declared.row.Row.{Row}
 use Rattle.rv32ui.specs.Roles.{roles_of}
 use Rattle.rv32ui.specs.Words.{operand_format, branch_format, upper_format}
 
--- the operands in their registers, and then a write to register 0
-abbrev pub prepared : {S : Type 0} → (S → S) → (S → ℕ → ℕ → S) → Row → S → S
-prepared restarted given row core =
+-- after a restart: the operands in their registers, and then a write to register 0
+abbrev pub prepared : {S : Type 0} → (S → ℕ → ℕ → S) → Row → S → S
+prepared given row core =
     let roles = roles_of row.0 in
-    given (given (given (restarted core) roles.first row.2) roles.second row.3) 0 (2 ^ 32 - 1)
+    given (given (given core roles.first row.2) roles.second row.3) 0 (2 ^ 32 - 1)
 
 -- the words, where the second of two is SRAI or ADDI
 abbrev pub words_by : Form → ℕ → Row → List ℕ

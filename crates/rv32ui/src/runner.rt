@@ -7,9 +7,9 @@ use crate::operation::{Form, Operation};
 use crate::row::{Roles, Row};
 use crate::word::*;
 
-// A core that runs words. What a run of words leaves is for each core to say.
+// A core that runs words. What a restart and a run of words leave is for each core to say.
 pub trait Runner {
-    ghost restarted: { Self → Self };
+    ghost restarts: { Self → Self → Type 0 };
 
     ghost given: { Self → ℕ → ℕ → Self };
 
@@ -21,7 +21,7 @@ pub trait Runner {
 
     // Registers and counter as at first.
     fn restart(&mut self)
-        ensures { self.new ≡ restarted self.old };
+        ensures { restarts self.old self.new };
 
     fn set(&mut self, register: u32, value: u32)
         ensures { self.new ≡ given self.old register value };
@@ -39,7 +39,7 @@ pub trait Runner {
 
 // Puts the operands of a row into their registers. A write to register 0 comes last: it must not show.
 fn prepare<R: Runner>(core: &mut R, row: Row)
-    ensures { core.new ≡ prepared R.restarted R.given row core.old }
+    ensures { (start : R) × R.restarts core.old start × core.new ≡ prepared R.given row start }
 {
     let Row(place, _, left, right) = row;
     let Roles { first, second, .. } = place.roles();
@@ -51,10 +51,12 @@ fn prepare<R: Runner>(core: &mut R, row: Row)
 
 // What a row of an operation gives; none where its words are not run.
 pub fn outcome<R: Runner>(core: &mut R, operation: &Operation, row: Row) -> Option<u32>
-    ensures { let first = prepared R.restarted R.given row core.old in
+    ensures { (start : R)
+        × R.restarts core.old start
+        × (let first = prepared R.given row start in
         (ran : Option Unit)
         × R.runs first (words_of operation.now row) ran core.new
-        × result ≡ told ran (reading operation.now.form (R.counter first) (R.counter core.new) (R.held core.new (roles_of row.0).target)) }
+        × result ≡ told ran (reading operation.now.form (R.counter first) (R.counter core.new) (R.held core.new (roles_of row.0).target))) }
 {
     let Row(place, _, left, right) = row;
     let Operation { form, fixed, .. } = *operation;

@@ -85,6 +85,9 @@ module _ (bytes ws : List ℕ) where
     pub missing_some : (AllLent ws (plan_of bytes) → ⊥) → lent_refusal ws (plan_of bytes) ≡ Some FramesMissing
     missing_some h = rw (refuted (lent_kept ws (plan_of bytes)) (lent_decides ws (plan_of bytes) ok) h) refl
 
+    pub missing_none : AllLent ws (plan_of bytes) → lent_refusal ws (plan_of bytes) ≡ None
+    missing_none h = rw ((lent_decides ws (plan_of bytes) ok).1 h) refl
+
 module _ (ws : List ℕ) (p : Plan) where
   -- a page that may be written receives on nothing
   pub written_end : (end : Endpoint) (f : ℕ) (x : Bool) → Leads ws (root p end.partition) end.page (record { frame = f; readable = true; writable = true; executable = x }) → end_frame ws p end true ≡ Err Broken

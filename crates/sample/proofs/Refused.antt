@@ -29,28 +29,22 @@ use Rattle.sample.proofs.Laid.{Tabled, formed, formed_0, held_0, leads_first_16,
 use Rattle.sample.proofs.Verdicts.{Spread, differ, none_shared}
 
 pub here_tabled : Tabled here
-here_tabled = record { enough = omega arith; table = (omega arith, (λ e. omega arith), omega arith); below = omega arith; mailbox = omega arith }
+here_tabled = grind arith
 
 crowded_tabled : Tabled crowded
-crowded_tabled = record { enough = omega arith; table = (omega arith, (λ e. omega arith), omega arith); below = omega arith; mailbox = omega arith }
+crowded_tabled = grind arith
 
 past_tabled : Tabled past
-past_tabled = record { enough = omega arith; table = (omega arith, (λ e. omega arith), omega arith); below = omega arith; mailbox = omega arith }
+past_tabled = grind arith
 
 shared_tabled : Tabled shared
-shared_tabled = record { enough = omega arith; table = (omega arith, (λ e. omega arith), omega arith); below = omega arith; mailbox = omega arith }
+shared_tabled = grind arith
 
 own_tabled : Tabled own
-own_tabled = record { enough = omega arith; table = (omega arith, (λ e. omega arith), omega arith); below = omega arith; mailbox = omega arith }
+own_tabled = grind arith
 
 short_spread : Spread short
-short_spread = record {
-  tabled = record { enough = omega arith; table = (omega arith, (λ e. omega arith), omega arith); below = omega arith; mailbox = omega arith };
-  code = (omega arith, λ e. omega arith);
-  mailbox = (omega arith, λ e. omega arith);
-  code_apart = λ e. omega arith;
-  mailbox_apart = λ e. omega arith;
-}
+short_spread = grind arith
 
 -- the plan's own rules are kept in each case, so a refusal is that of the first rule on frames
 module _ (ws : List ℕ) (e : Refusal) where

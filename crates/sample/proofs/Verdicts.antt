@@ -56,10 +56,10 @@ module _ (l : Layout) (content : ℕ → ℕ → ℕ) (h : Fits l) where
   pub tabled : Tabled l
   tabled = record { enough = h.enough; table = h.table; below = omega (arith, h.table.2, h.few); mailbox = omega (arith, h.mailbox.2, h.few) }
 
-  spread : Spread l
+  pub spread : Spread l
   spread = record { tabled = tabled; code = (h.code.0, h.code.1); mailbox = (h.mailbox.0, h.mailbox.1); code_apart = h.code_apart; mailbox_apart = h.mailbox_apart }
 
-  all_lent : AllLent (memory l content) (plan_of two)
+  pub all_lent : AllLent (memory l content) (plan_of two)
   unfolding plan_of rows
   all_lent zero f g n = elim (named_0 l content h.enough f n) [ inl e ↦ lent_at l content f (omega (arith, h.enough)) | inr e ↦ lent_at l content f (omega (arith, h.enough)) ]
   all_lent (suc zero) f g n = elim (named_1 l content tabled f n) [ inl e ↦ lent_at l content f (omega (arith, h.code.2)) | inr e ↦ lent_at l content f (omega (arith, h.mailbox.2)) ]
@@ -88,26 +88,10 @@ pub accepts : Accepts
 accepts l h content = stands l content h
 
 pub here_fits : Fits here
-here_fits = record {
-  few = omega arith;
-  enough = omega arith;
-  table = (omega arith, (λ e. omega arith), omega arith);
-  code = (omega arith, (λ e. omega arith), omega arith);
-  mailbox = (omega arith, (λ e. omega arith), omega arith);
-  code_apart = λ e. omega arith;
-  mailbox_apart = λ e. omega arith;
-}
+here_fits = grind arith
 
 pub there_fits : Fits there
-there_fits = record {
-  few = omega arith;
-  enough = omega arith;
-  table = (omega arith, (λ e. omega arith), omega arith);
-  code = (omega arith, (λ e. omega arith), omega arith);
-  mailbox = (omega arith, (λ e. omega arith), omega arith);
-  code_apart = λ e. omega arith;
-  mailbox_apart = λ e. omega arith;
-}
+there_fits = grind arith
 
 pub budget : required_budget (plan_of two) ≡ 1754
 unfolding first most messages plan_of rows

@@ -2,7 +2,7 @@
 use Rattle.std.proofs.Common.{◌≡◌, ℕ, ◌+◌, ◌^◌, ◌<◌, ◌≤◌, true, ◌≢◌, List, length, set, sym, refl, ap, ◌∙◌, subst, add-one, arith}
 use Rattle.std.proofs.lemmas.List.{get_or-set_other, get_or-set_same, length-set}
 use Rattle.std.proofs.lemmas.Bool.{cond-true, eq-eqb}
-use Rattle.words.specs.Costs.{highest}
+use Rattle.costs.specs.Costs.{worst_instruction}
 use Rattle.words.specs.Frames.{word}
 use Rattle.words.proofs.First.{count_at_most, most_bound}
 use Rattle.tables.specs.Cache.{dirty_at}
@@ -78,7 +78,7 @@ module _ (bytes : List ℕ) (a : Accepted) (s : System) (before : BeforeSlot byt
 
   module _ (able : can_run a.plan s.machine ≡ true) where
     -- the clock has room for the slot
-    room : slot_end a.plan s.machine + highest < 2 ^ 64
+    room : slot_end a.plan s.machine + worst_instruction < 2 ^ 64
     room = omega (arith, clock_below a.plan s.machine able, known.timely.short s.machine.turn)
 
     goes_on : (n : ℕ) → GoesOn (slot_end a.plan s.machine) (inside_after a.plan s n) (inside_after a.plan s (n + 1))
@@ -92,7 +92,7 @@ module _ (bytes : List ℕ) (a : Accepted) (s : System) (before : BeforeSlot byt
     unfolding inside_after
     reached = until_least (slot_end a.plan s.machine) room (coming a.plan s.machine).length (entered a.plan s).now (omega arith)
 
-    past : (ended a.plan s).now.core.clock < slot_end a.plan s.machine + highest
+    past : (ended a.plan s).now.core.clock < slot_end a.plan s.machine + worst_instruction
     unfolding inside_after
     past = until_most (slot_end a.plan s.machine) room (coming a.plan s.machine).length (entered a.plan s).now (omega arith)
 

@@ -1,7 +1,7 @@
 -- The steps of one slot: what they keep, what they leave alone, how long they take, and that two systems take them alike.
 use Rattle.std.proofs.Common.{◌≡◌, ℕ, zero, suc, ◌+◌, ◌*◌, ◌%◌, ◌^◌, ◌<◌, ◌≤◌, true, ◌≢◌, List, sym, refl, ap, ◌∙◌, subst, inl, inr, arith}
 use Rattle.std.proofs.lemmas.Bool.{cases_eq, cases_lt, le-ltb, lt-ltb}
-use Rattle.words.specs.Costs.{highest}
+use Rattle.costs.specs.Costs.{worst_instruction}
 use Rattle.words.specs.Frames.{lent, word}
 use Rattle.paging.specs.Tables.{Names, Owns, SameTables}
 use Rattle.paging.proofs.Agree.{kernel_back, leaves_named, names_back, owns_back, owns_there}
@@ -165,7 +165,7 @@ module _ (stop : ℕ) where
     | inr b ↦ until_past stop (suc (suc n)) m b ∙ sym (until_past stop (suc n) m b)
   ]
 
-  module _ (room : stop + highest < 2 ^ 64) where
+  module _ (room : stop + worst_instruction < 2 ^ 64) where
     goes : (m : Moment) → m.core.clock < stop → Moves m
     goes m l = moves m (omega (arith, room))
 
@@ -198,7 +198,7 @@ module _ (stop : ℕ) where
     -- each instruction of a program that stays ready takes at most the highest cost
     pub record Counted (x y : Moment) : Type 0 where
       pub was : x.core.context.state ≡ Ready
-      pub paid : y.core.clock + highest * x.instructions ≤ x.core.clock + highest * y.instructions
+      pub paid : y.core.clock + worst_instruction * x.instructions ≤ x.core.clock + worst_instruction * y.instructions
 
     pub until_counted : (n : ℕ) (m : Moment) → (until stop n m).core.context.state ≡ Ready → Counted m (until stop n m)
     unfolding until

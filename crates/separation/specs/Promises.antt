@@ -1,6 +1,6 @@
 -- What is promised of every slot of an accepted plan, with any programs.
 use Rattle.std.specs.Prelude.{◌≡◌, ℕ, ◌+◌, ◌/◌, ◌^◌, ◌<◌, ◌≤◌, true, false, ◌≢◌, List, Contains}
-use Rattle.words.specs.Costs.{highest}
+use Rattle.costs.specs.Costs.{worst_instruction}
 use Rattle.words.specs.Frames.{word}
 use Rattle.paging.specs.declared.leaf.Leaf.{Leaf}
 use Rattle.paging.specs.Mapping.{Maps}
@@ -28,7 +28,7 @@ runs a s = who_runs a.plan s.machine
 -- its work, write-backs and copies included, ends before the next slot begins: so when the next slot begins hides how many lines were dirty
 pub record Switches (a : Accepted) (s t : System) : Type 0 where
   pub reached : slot_end a.plan s.machine ≤ (ended a.plan s).now.core.clock
-  pub past : (ended a.plan s).now.core.clock < slot_end a.plan s.machine + highest
+  pub past : (ended a.plan s).now.core.clock < slot_end a.plan s.machine + worst_instruction
   pub cleared : t.machine.tables ≡ first_tables
   pub fits : (ended a.plan s).now.core.clock + switch_work a.plan (runs a s) (ended a.plan s).now.core.tables ≤ slot_end a.plan s.machine + a.plan.budget
   pub next : t.machine.clock ≡ slot_end a.plan s.machine + a.plan.budget
@@ -64,7 +64,7 @@ pub record OneInstruction (x y : Moment) : Type 0 where
   pub clock : y.core.clock ≡ x.core.clock + cycles (stepped x.core x.words).used
   pub under : y.core.root ≡ x.core.root
   pub least : x.core.clock < y.core.clock
-  pub most : y.core.clock ≤ x.core.clock + highest
+  pub most : y.core.clock ≤ x.core.clock + worst_instruction
   pub counted : y.instructions ≡ x.instructions + 1
 
 -- one step: before the slot's end a program that is ready begins an instruction, and a stopped one waits for a cycle; from the end on nothing happens
@@ -102,7 +102,7 @@ TranslatesThroughout a s = (n : ℕ) → Translates a s (inside_after a.plan s n
 
 -- a program that is still ready at the slot's end began at least as many instructions as the highest cost fits into the slot
 abbrev pub Progress : Accepted → System → Type 0
-Progress a s = (ended a.plan s).now.core.context.state ≡ Ready → (coming a.plan s.machine).length / highest ≤ (ended a.plan s).now.instructions
+Progress a s = (ended a.plan s).now.core.context.state ≡ Ready → (coming a.plan s.machine).length / worst_instruction ≤ (ended a.plan s).now.instructions
 
 -- all of it, of one slot: `s` is the system before it, and `t` the one after its switch
 pub record SlotPromises (bytes : List ℕ) (a : Accepted) (s t : System) : Type 0 where

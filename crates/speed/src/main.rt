@@ -5,7 +5,6 @@ use console::arguments::{argument, arguments, at_most, not_number};
 use console::problem::{Problem, Program};
 use hart::step::Core;
 use hart::stepper::Stepper;
-use isa::decoder::Decoder;
 use rv32ui::memory::{CODE, CODE_FRAME, MEMORY_WORDS, lay_out, put};
 use std::process::ExitCode;
 
@@ -33,9 +32,8 @@ const LOOP: [u32; 9] = [
 // The clock after so many instructions.
 fn run(words: &mut [u32], count: u64) -> u64 {
     let mut stepper = Stepper::new(Core::new(0, CODE));
-    let mut decoder = Decoder::new();
     for _ in 0..count {
-        stepper.step(words, &mut decoder);
+        stepper.step(words);
     }
     stepper.core.clock
 }

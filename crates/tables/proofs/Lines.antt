@@ -1,9 +1,11 @@
 -- One access, seen from any line of memory.
-use Rattle.std.proofs.Common.{◌≡◌, ℕ, ◌+◌, ◌<◌, ◌≤◌, Bool, true, false, cond, ◌&&◌, ◌||◌, ◌⊎◌, length, Some, None, Option, sym, refl, ap, ◌∙◌, inl, inr, arith}
+use Rattle.std.proofs.Common.{◌≡◌, ℕ, ◌<◌, Bool, true, false, cond, ◌&&◌, ◌||◌, ◌⊎◌, length, Some, None, Option, sym, refl, ap, ◌∙◌, inl, inr, arith}
 use Rattle.std.proofs.lemmas.Nat.{mod_below}
 use Rattle.std.proofs.lemmas.List.{get_or-set_same, get_or-set_other, get_or-replicate, length-set, length-replicate}
 use Rattle.std.proofs.lemmas.Bool.{and_left, cases_eq, eq-eqb, eqb-true, ne_eqb, or_right}
-use Rattle.words.specs.Costs.{cache_lines}
+use Rattle.costs.specs.declared.used.CacheUse.TheVariants.{DirtyMiss, Hit, Miss}
+use Rattle.costs.specs.Costs.{cache_lines}
+use Rattle.costs.specs.Cycles.{cache_cycles}
 use Rattle.tables.specs.declared.cache.Cache.{Cache}
 use Rattle.tables.specs.declared.cache.Line.{Line}
 use Rattle.tables.specs.Cache.{accessed, empty_cache, has_tag, held, hits, is_dirty, line_of, place_of, renewed, tag_of}
@@ -75,13 +77,8 @@ whole_empty = let none : Option Line = None in length-replicate cache_lines none
 pub held_empty : (line : ℕ) → held empty_cache line ≡ None
 held_empty line = let none : Option Line = None in get_or-replicate cache_lines (place_of line) none none (mod_below line 64 (omega arith))
 
--- a charge that a test may spare
-pub charged_at_most : (spared : Bool) (charge : ℕ) → cond spared 0 charge ≤ charge
-charged_at_most true charge = omega arith
-charged_at_most false charge = omega arith
-
 -- what an access costs, by what its place holds
-priced : (hit dirty : Bool) → let cost = cond hit 0 (20 + cond dirty 10 0) in (cost ≡ 0) ⊎ ((cost ≡ 20) ⊎ (cost ≡ 30))
+priced : (hit dirty : Bool) → let cost = cache_cycles (cond hit Hit (cond dirty DirtyMiss Miss)) in (cost ≡ 0) ⊎ ((cost ≡ 20) ⊎ (cost ≡ 30))
 priced true dirty = inl refl
 priced false false = inr (inl refl)
 priced false true = inr (inr refl)

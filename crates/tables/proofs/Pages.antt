@@ -3,7 +3,7 @@ use Rattle.std.proofs.Common.{◌≡◌, ℕ, Bool, true, false, eqb, ◌⊎◌,
 use Rattle.std.proofs.lemmas.Nat.{mod_below}
 use Rattle.std.proofs.lemmas.Bool.{both_ways, cases_Bool, cases_eq, cond-true, cond-false, eqb-true, false_from_ne_true, ne_eqb}
 use Rattle.std.proofs.lemmas.List.{get_or-replicate, get_or-set_other, length-replicate, length-set}
-use Rattle.words.specs.Costs.{page_walk}
+use Rattle.costs.specs.Costs.{page_walk}
 use Rattle.paging.specs.declared.access.Access.{Access}
 use Rattle.paging.specs.declared.leaf.Leaf.{Leaf}
 use Rattle.paging.specs.Accesses.{permitted}
@@ -103,7 +103,7 @@ module _ (page : ℕ) where
   nothing_known : is_known page empty_tlb ≡ false
   nothing_known = let none : Option TlbEntry = None in ap (λ o. is_some (leaf_for page o)) (get_or-replicate 16 (entry_of page) none none (mod_below page 16 (omega arith)))
 
-  whole_used : (tlb : Tlb) (u : PageUse) → WholeTlb tlb → WholeTlb (page_used tlb u)
+  pub whole_used : (tlb : Tlb) (u : PageUse) → WholeTlb tlb → WholeTlb (page_used tlb u)
   unfolding filled
   whole_used tlb u = whole_filled tlb u.page u.access (known tlb u.page) u.walk
 

@@ -5,7 +5,9 @@ use Rattle.std.proofs.lemmas.List.{get_or-set_same, get_or-set_other, take_all}
 use Rattle.std.proofs.lemmas.List.Sums.{count_by_more_no, count_by_more_yes}
 use Rattle.std.proofs.lemmas.Bool.{cases_Bool, and_left, and_right, and_from, eq-eqb, ne_eqb, not_from_true, not_from_false}
 use Rattle.std.specs.List.{count_by}
-use Rattle.words.specs.Costs.{cache_lines, miss, write_back}
+use Rattle.costs.specs.declared.used.CacheUse.TheVariants.{DirtyMiss, Hit, Miss}
+use Rattle.costs.specs.Costs.{cache_lines, miss, write_back}
+use Rattle.costs.specs.Cycles.{cache_cycles}
 use Rattle.words.specs.First.{count, weight}
 use Rattle.words.proofs.First.{count_change}
 use Rattle.tables.specs.declared.cache.Cache.{Cache}
@@ -96,7 +98,7 @@ one_line line cache u whole = elim (meets u.line line) [
 ]
 
 -- cycles
-priced : (hit dirty : Bool) → cond hit 0 (miss + cond dirty write_back 0) ≡ miss * weight (not hit) 1 + write_back * weight (not hit && dirty) 1
+priced : (hit dirty : Bool) → cache_cycles (cond hit Hit (cond dirty DirtyMiss Miss)) ≡ miss * weight (not hit) 1 + write_back * weight (not hit && dirty) 1
 priced true dirty = refl
 priced false true = refl
 priced false false = refl

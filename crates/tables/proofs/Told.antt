@@ -1,9 +1,9 @@
 -- What a row tells of the cache after it.
-use Rattle.std.proofs.Common.{◌≡◌, ℕ, ◌+◌, ◌*◌, Bool, true, false, cond, not, ◌&&◌, eqb, ◌⊎◌, List, get_or, Some, None, Decides, Option, sym, refl, ap, ◌∙◌, subst, inl, inr, arith}
+use Rattle.std.proofs.Common.{◌≡◌, ℕ, ◌+◌, ◌*◌, Bool, true, false, not, ◌&&◌, eqb, ◌⊎◌, List, get_or, Some, None, Decides, Option, sym, refl, ap, ◌∙◌, subst, inl, inr, arith}
 use Rattle.std.proofs.lemmas.Nat.{mod_below}
-use Rattle.std.proofs.lemmas.Bool.{and_from, and_parts, both_ways, cases_Bool, cond-true, eq-eqb, eqb-true, false_from_ne_true, false≢true, not_from_false, not-true, or_cases, or_left, or_right}
+use Rattle.std.proofs.lemmas.Bool.{and_from, and_parts, both_ways, cases_Bool, eq-eqb, eqb-true, false_from_ne_true, false≢true, not_from_false, not-true, or_cases, or_left, or_right}
 use Rattle.std.proofs.lemmas.Bool.Decides.{Decides-and, Decides-eqb, Decides-not}
-use Rattle.words.specs.Costs.{miss, write_back}
+use Rattle.costs.specs.Costs.{miss, write_back}
 use Rattle.tables.specs.declared.cache.Cache.{Cache}
 use Rattle.tables.specs.declared.cache.Line.{Line}
 use Rattle.tables.specs.Cache.{access_cost, empty_cache, has_tag, held, hits, is_dirty, place_of, tag_of}
@@ -157,7 +157,7 @@ remembers row =
       resident = resident;
       stored = stored;
       next = λ line. record {
-        hit = λ r. cond-true (hits cache line) 0 (miss + cond (is_dirty (held cache line)) write_back 0) ((resident line).1 r);
+        hit = λ r. let there = (resident line).1 r in rw there refl;
         over_dirty = λ other k s. over_dirty cache line other (sym k.0, λ e. k.1 (sym e)) ((stored other).1 s);
         over_clean = λ out none. over_clean cache line (false_from_ne_true (hits cache line) (λ h. out ((resident line).0 h))) (λ other k d. none other (sym k.0, λ e. k.1 (sym e)) ((stored other).0 d));
       };

@@ -1,44 +1,41 @@
 -- What a look-up gives, and an honest TLB.
-use Rattle.std.proofs.Common.{◌≡◌, ℕ, zero, suc, ◌<◌, ◌≤◌, true, cond, eqb, List, length, get_or, replicate, is_some, Some, None, Option, sym, refl, ap, ◌∙◌, inl, inr, arith}
+use Rattle.std.proofs.Common.{◌≡◌, ℕ, zero, suc, ◌<◌, Bool, true, false, cond, eqb, List, length, get_or, replicate, is_some, Some, None, Option, sym, refl, ap, ◌∙◌, inl, inr, arith}
 use Rattle.std.proofs.lemmas.Nat.{mod_below}
 use Rattle.std.proofs.ByRecursion.{All-get_or, All-set, All-weaker}
 use Rattle.std.proofs.lemmas.List.{get_or_past, get_or-set_same}
-use Rattle.std.proofs.lemmas.Bool.{cases_Bool, cases_lt, eq-eqb, eqb-true, false≢true}
+use Rattle.std.proofs.lemmas.Bool.{cases_Bool, cases_lt, eq-eqb, eqb-true, false≢true, true≢false}
 use Rattle.std.proofs.lemmas.Option.{cond_some, none-some}
 use Rattle.std.specs.List.{AllByRecursion as All}
-use Rattle.words.specs.Costs.{misprediction, page_walk}
+use Rattle.costs.specs.Costs.{page_walk}
+use Rattle.costs.specs.Cycles.{walk_cycles}
 use Rattle.paging.specs.declared.access.Access.{Access}
 use Rattle.paging.specs.declared.leaf.Leaf.{Leaf}
 use Rattle.paging.specs.Accesses.{permitted}
 use Rattle.paging.specs.Walks.{then_place, translated, walked}
-use Rattle.tables.specs.declared.cache.Cache.{Cache}
 use Rattle.tables.specs.declared.tlb.Lookup.{Lookup}
 use Rattle.tables.specs.declared.tlb.Tlb.{Tlb}
 use Rattle.tables.specs.declared.tlb.TlbEntry.{TlbEntry}
-use Rattle.tables.specs.Cache.{access_cost}
-use Rattle.tables.specs.Predictor.{is_right}
 use Rattle.tables.specs.Tlb.{entry_of, filled, filled_by, found, found_by, granted, hit, known, leaf_for, put, reply}
 use Rattle.tables.specs.Honest.{Honest, TrueEntry, Truthful, reached}
-use Rattle.tables.specs.Laws.{Highest, Honesty, LookUps}
-use Rattle.tables.proofs.Lines.{access_costs, charged_at_most}
+use Rattle.tables.specs.Laws.{Honesty, LookUps}
 
 module _ (access : Access) where
-  found_cost : (o walk : Option Leaf) → (found_by access o walk).cost ≡ cond (is_some o) 0 page_walk
+  found_cost : (o walk : Option Leaf) → walk_cycles (found_by access o walk).walked ≡ cond (is_some o) 0 page_walk
   found_cost None walk = refl
   found_cost (Some leaf) walk = refl
 
   -- a fault has no leaf to fill in
-  faulted : (cost : ℕ) (o : Option Leaf) → (reply cost o).frame ≡ None → o ≡ None
-  faulted cost None e = refl
-  faulted cost (Some leaf) e = cc
+  faulted : (walked : Bool) (o : Option Leaf) → (reply walked o).frame ≡ None → o ≡ None
+  faulted walked None e = refl
+  faulted walked (Some leaf) e = cc
 
-  allowed : (cost : ℕ) (o : Option Leaf) → is_some (reply cost o).frame ≡ true → (leaf : Leaf) × (o ≡ Some leaf)
-  allowed cost None e = absurd (false≢true e)
-  allowed cost (Some leaf) e = (leaf, refl)
+  allowed : (walked : Bool) (o : Option Leaf) → is_some (reply walked o).frame ≡ true → (leaf : Leaf) × (o ≡ Some leaf)
+  allowed walked None e = absurd (false≢true e)
+  allowed walked (Some leaf) e = (leaf, refl)
 
   module _ (tlb : Tlb) (page : ℕ) where
     faulted_fills : (o walk : Option Leaf) → (found_by access o walk).frame ≡ None → filled_by tlb page access o walk ≡ tlb
-    faulted_fills None walk e = ap (put tlb page) (faulted page_walk (granted access walk) e)
+    faulted_fills None walk e = ap (put tlb page) (faulted true (granted access walk) e)
     faulted_fills (Some leaf) walk e = refl
 
     pub known_put : (leaf : Leaf) → length tlb.entries ≡ 16 → known (put tlb page (Some leaf)) page ≡ Some leaf
@@ -50,7 +47,7 @@ module _ (access : Access) where
     allowed_fills : (o walk : Option Leaf) → known tlb page ≡ o → length tlb.entries ≡ 16 → is_some (found_by access o walk).frame ≡ true →
         is_some (known (filled_by tlb page access o walk) page) ≡ true
     allowed_fills None walk is e ok =
-        let a = allowed page_walk (granted access walk) ok in
+        let a = allowed true (granted access walk) ok in
         ap (λ o. is_some (known (put tlb page o) page)) a.1 ∙ ap is_some (known_put a.0 e)
     allowed_fills (Some leaf) walk is e ok = ap is_some is
 
@@ -63,9 +60,9 @@ look_ups tlb page access walk = record {
 }
 
 -- a leaf that permits an access leads to the place that translation gives, any other to its fault
-through : (cost address : ℕ) (access : Access) (o : Option Leaf) → reached (reply cost (granted access o)) address access ≡ then_place address access o
-through cost address access None = refl
-through cost address access (Some leaf) = elim (cases_Bool (permitted leaf access)) [ inl e ↦ rw e refl | inr e ↦ rw e refl ]
+through : (walked : Bool) (address : ℕ) (access : Access) (o : Option Leaf) → reached (reply walked (granted access o)) address access ≡ then_place address access o
+through walked address access None = refl
+through walked address access (Some leaf) = elim (cases_Bool (permitted leaf access)) [ inl e ↦ rw e refl | inr e ↦ rw e refl ]
 
 granted_leaf : (access : Access) (o : Option Leaf) (leaf : Leaf) → granted access o ≡ Some leaf → o ≡ Some leaf
 granted_leaf access None leaf e = e
@@ -88,8 +85,8 @@ module _ (words : List ℕ) (root page : ℕ) where
     module _ (access : Access) where
       true_found : (o : Option Leaf) → known tlb page ≡ o → (address : ℕ) →
           reached (found_by access o (walked words root page)) address access ≡ then_place address access (walked words root page)
-      true_found None is address = through page_walk address access (walked words root page)
-      true_found (Some leaf) is address = through 0 address access (Some leaf) ∙ ap (then_place address access) (sym (true_known leaf is))
+      true_found None is address = through true address access (walked words root page)
+      true_found (Some leaf) is address = through false address access (Some leaf) ∙ ap (then_place address access) (sym (true_known leaf is))
 
       true_put : (o : Option Leaf) → granted access (walked words root page) ≡ o → Honest (put tlb page o) words root
       true_put None is = honest
@@ -122,39 +119,20 @@ honesty = record {
   moves = λ tlb words others root same honest. All-weaker (TrueEntry words root) (TrueEntry others root) (moved words others root same) tlb.entries honest;
 }
 
-find_at_most : (tlb : Tlb) (page : ℕ) (access : Access) (walk : Option Leaf) → (found tlb page access walk).cost ≤ 30
-find_at_most tlb page access walk = omega (arith, (look_ups tlb page access walk).cost, charged_at_most (is_some (known tlb page)) page_walk)
-
-pub access_at_most : (cache : Cache) (line : ℕ) → access_cost cache line ≤ 30
-access_at_most cache line = elim (access_costs cache line) [ inl e ↦ omega (arith, e) | inr (inl e) ↦ omega (arith, e) | inr (inr e) ↦ omega (arith, e) ]
-
 -- for what a look-up answers and leaves
 pub carried : (tlb after : Tlb) (words : List ℕ) (root page : ℕ) (access : Access) (lookup : Lookup) →
     lookup ≡ found tlb page access (walked words root page) → after ≡ filled tlb page access (walked words root page) →
     Honest tlb words root → Truthful after words root page access lookup
 carried tlb after words root page access lookup e f honest = rw (e, f) (truthful words root page tlb honest access)
 
-pub carried_cost : (tlb : Tlb) (page : ℕ) (access : Access) (walk : Option Leaf) (lookup : Lookup) → lookup ≡ found tlb page access walk → lookup.cost ≤ page_walk
-carried_cost tlb page access walk lookup e = rw e (find_at_most tlb page access walk)
-
-pub highest_costs : Highest
-highest_costs = record {
-  data_access = λ code tables cache page other line a b walk way.
-      omega (arith, find_at_most code page a walk, find_at_most tables other b way, access_at_most cache line);
-  branch = λ tlb predictor page address a walk taken.
-      omega (arith, find_at_most tlb page a walk, charged_at_most (is_right predictor address taken) misprediction);
-  is_91 = refl;
-  is_34 = refl;
-}
-
 -- a look-up that walks nothing fills nothing
-cheap_by : (tlb : Tlb) (page : ℕ) (access : Access) (o walk : Option Leaf) → (found_by access o walk).cost < page_walk → filled_by tlb page access o walk ≡ tlb
-cheap_by tlb page access None walk l = absurd (omega (arith, l))
-cheap_by tlb page access (Some leaf) walk l = refl
+unwalked_by : (tlb : Tlb) (page : ℕ) (access : Access) (o walk : Option Leaf) → (found_by access o walk).walked ≡ false → filled_by tlb page access o walk ≡ tlb
+unwalked_by tlb page access None walk e = absurd (true≢false e)
+unwalked_by tlb page access (Some leaf) walk e = refl
 
-pub cheap_look : (tlb : Tlb) (page : ℕ) (access : Access) (walk : Option Leaf) → (found tlb page access walk).cost < page_walk → filled tlb page access walk ≡ tlb
+pub unwalked_look : (tlb : Tlb) (page : ℕ) (access : Access) (walk : Option Leaf) → (found tlb page access walk).walked ≡ false → filled tlb page access walk ≡ tlb
 unfolding found filled
-cheap_look tlb page access walk = cheap_by tlb page access (known tlb page) walk
+unwalked_look tlb page access walk = unwalked_by tlb page access (known tlb page) walk
 
 -- a page that is known needs no walk: whatever one would answer, the frame is the same and nothing is filled
 hit_by : (tlb : Tlb) (page : ℕ) (access : Access) (frame : ℕ) (o walk : Option Leaf) → found_by access o None ≡ hit frame →

@@ -1,16 +1,17 @@
 -- Branches that are taken again and again.
-use Rattle.std.proofs.Common.{◌≡◌, ℕ, zero, suc, ◌+◌, ◌/◌, ◌<◌, ◌≤◌, min, Bool, true, false, cond, eqb, leb, ◌⊎◌, List, [], ◌∷◌, ◌++◌, length, get_or, replicate, sym, refl, ap, ◌∙◌, inl, inr, add-one, arith}
+use Rattle.std.proofs.Common.{◌≡◌, ℕ, zero, suc, ◌+◌, ◌/◌, ◌<◌, ◌≤◌, min, Bool, true, false, cond, not, eqb, leb, ◌⊎◌, List, [], ◌∷◌, ◌++◌, length, get_or, replicate, sym, refl, ap, ◌∙◌, inl, inr, add-one, arith}
 use Rattle.std.proofs.lemmas.Nat.{mod_below}
 use Rattle.std.proofs.ByRecursion.{All-get_or, All-set}
 use Rattle.std.proofs.lemmas.List.{get_or_past, get_or-replicate, get_or-set_other, get_or-set_same, length-replicate, length-set}
 use Rattle.std.proofs.lemmas.Bool.{cases_eq, cases_lt, eq-eqb, le-leb, lt-leb, ne_eqb}
 use Rattle.std.specs.List.{AllByRecursion as All}
-use Rattle.words.specs.Costs.{misprediction}
+use Rattle.costs.specs.Costs.{misprediction}
+use Rattle.costs.specs.Cycles.{branch_cycles}
+use Rattle.costs.proofs.Bounds.{branch_most}
 use Rattle.tables.specs.declared.predictor.Predictor.{Predictor}
 use Rattle.tables.specs.Predictor.{branch_cost, counted, counter, counter_of, first_predictor, learned}
 use Rattle.tables.specs.Loops.{Branch, Taken, branch_costs, loop_and_again, loop_cost, taken_at}
 use Rattle.tables.specs.Laws.{CountersStay, Counts, LoopsLeft, LoopsPredicted}
-use Rattle.tables.proofs.Lines.{charged_at_most}
 
 abbrev AsMany : Predictor → Type 0
 AsMany predictor = length predictor.counters ≡ 64
@@ -37,7 +38,7 @@ module _ (address : ℕ) where
 
   -- a branch of the row counts up, or leaves the counter and is not charged
   turn : (predictor : Predictor) (b : Branch) → AsMany predictor → Taken address b →
-      ((charge predictor b ≡ cond (leb 2 (counter predictor address)) 0 misprediction) × (counter (next predictor b) address ≡ min (counter predictor address + 1) 3))
+      ((charge predictor b ≡ branch_cycles (not (leb 2 (counter predictor address)))) × (counter (next predictor b) address ≡ min (counter predictor address + 1) 3))
       ⊎ ((charge predictor b ≡ 0) × (counter (next predictor b) address ≡ counter predictor address))
   turn predictor b many taken = elim (cases_eq (counter_of b.address) (counter_of address)) [
     | inl e ↦
@@ -72,7 +73,7 @@ module _ (address : ℕ) where
   once (b ∷ row) predictor many all high =
       let many_next = as_many_learned predictor b.address b.taken many in
       elim (turn predictor b many all.0) [
-        | inl t ↦ omega (arith, t.0, charged_at_most (leb 2 (counter predictor address)) misprediction, steady row (next predictor b) many_next all.1 (omega (arith, t.1)))
+        | inl t ↦ omega (arith, t.0, branch_most (not (leb 2 (counter predictor address))), steady row (next predictor b) many_next all.1 (omega (arith, t.1)))
         | inr t ↦ omega (arith, t.0, once row (next predictor b) many_next all.1 (omega (arith, t.1)))
       ]
 

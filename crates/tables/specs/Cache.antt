@@ -1,8 +1,13 @@
 -- The data cache: 64 lines of 16 words. It knows which lines of memory it holds and which of them are dirty, and no words.
 use Rattle.std.specs.Prelude.{◌≡◌, ℕ, ◌+◌, ◌*◌, ◌/◌, ◌%◌, Bool, true, false, cond, ◌||◌, replicate, Some, None, Option, ◌==◌, slice_index_or, slice_set}
-use Rattle.words.specs.Costs.{cache_lines, miss, write_back}
+use Rattle.costs.specs.declared.used.CacheUse.{CacheUse}
+use Rattle.costs.specs.declared.used.CacheUse.TheVariants.{DirtyMiss, Hit, Miss}
+use Rattle.costs.specs.Costs.{cache_lines}
+use Rattle.costs.specs.Cycles.{cache_cycles}
 use Rattle.words.specs.First.{count}
-use Rattle.paging.specs.declared.translate.Place.{Place}
+use Rattle.paging.specs.declared.access.Access.{Access}
+use Rattle.paging.specs.declared.access.Access.TheVariants.{Fetch, Load, Store}
+use Rattle.paging.specs.declared.place.Place.{Place}
 use Rattle.tables.specs.declared.cache.Cache.{Cache}
 use Rattle.tables.specs.declared.cache.Line.{Line}
 
@@ -33,9 +38,18 @@ has_tag tag (Some line) = line.tag == tag
 abbrev pub hits : Cache → ℕ → Bool
 hits cache line = has_tag (tag_of line) (held cache line)
 
--- what an access to a line of memory costs: nothing if it is in the cache, else a miss, and a write-back if what goes is dirty
+-- what an access to a line of memory does: a hit if it is in the cache, else a miss, and one over a dirty line if what goes is dirty
+abbrev pub access_use : Cache → ℕ → CacheUse
+access_use cache line = cond (hits cache line) Hit (cond (is_dirty (held cache line)) DirtyMiss Miss)
+
+-- and the cycles of that
 abbrev pub access_cost : Cache → ℕ → ℕ
-access_cost cache line = cond (hits cache line) 0 (miss + cond (is_dirty (held cache line)) write_back 0)
+access_cost cache line = cache_cycles (access_use cache line)
+
+abbrev pub is_store : Access → Bool
+is_store Fetch = false
+is_store Load = false
+is_store Store = true
 
 -- what the cache holds of the line afterwards: dirty after a store, and after a load if it was there and dirty
 abbrev pub renewed : Cache → ℕ → Bool → Line

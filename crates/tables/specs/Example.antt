@@ -1,42 +1,38 @@
 -- A store and two loads, worked by the tables alone: what the look-up and the access of an instruction add up to. The whole step of a program is the core's.
--- The root is frame 0, its first entry points to frame 1, where pages 17 and 18 map to frames 2 and 3 with R and W.
-use Rattle.std.specs.Prelude.{◌≡◌, ℕ, ◌+◌, ◌/◌, Bool, true, false, List, replicate, unwrap_or}
-use Rattle.words.specs.Costs.{instruction, miss, page_walk, write_back}
-use Rattle.words.specs.Frames.{written}
+use Rattle.std.specs.Prelude.{◌≡◌, ℕ, ◌+◌, ◌/◌, Bool, true, false, List, unwrap_or}
+use Rattle.costs.specs.Costs.{instruction, miss, page_walk, write_back}
+use Rattle.costs.specs.Cycles.{cycles, plain}
 use Rattle.paging.specs.declared.access.Access.{Access}
-use Rattle.paging.specs.declared.access.Access.TheVariants.{Fetch, Load, Store}
+use Rattle.paging.specs.declared.access.Access.TheVariants.{Load, Store}
 use Rattle.paging.specs.Accesses.{place_in}
+use Rattle.paging.specs.Small.{mapped, with_page}
 use Rattle.paging.specs.Walks.{walked}
 use Rattle.tables.specs.declared.Tables.{Tables}
 use Rattle.tables.specs.declared.tlb.Lookup.{Lookup}
-use Rattle.tables.specs.Cache.{access_cost, accessed, line_of}
+use Rattle.tables.specs.Cache.{access_use, accessed, is_store, line_of}
 use Rattle.tables.specs.First.{first_tables}
 use Rattle.tables.specs.Tlb.{filled, found}
 
-abbrev pub four_frames : List ℕ
-four_frames = written (written (written (replicate 4096 0) 0 0 0x401) 1 17 0x8D7) 1 18 0xCD7
+-- pages 17 and 18 are frames with R and W
+abbrev pub small : List ℕ
+small = with_page mapped 18 0x8D7
 
 abbrev pub lookup : Tables → Access → ℕ → Lookup
-lookup tables access address = found tables.tlb (address / 4096) access (walked four_frames 0 (address / 4096))
+lookup tables access address = found tables.tlb (address / 4096) access (walked small 0 (address / 4096))
 
 abbrev pub line_at : Lookup → ℕ → ℕ
 line_at answer address = line_of (place_in (unwrap_or answer.frame 0) address)
 
 -- the cycles of a load or store whose code page is known, and the tables after it
-abbrev pub cycles : Tables → Access → ℕ → ℕ
-cycles tables access address =
-    let answer = lookup tables access address in instruction + answer.cost + access_cost tables.cache (line_at answer address)
-
-abbrev pub is_store : Access → Bool
-is_store Fetch = false
-is_store Load = false
-is_store Store = true
+abbrev pub cost : Tables → Access → ℕ → ℕ
+cost tables access address =
+    let answer = lookup tables access address in
+    cycles (record plain { data_walked = answer.walked; cache = access_use tables.cache (line_at answer address) })
 
 abbrev pub next : Tables → Access → ℕ → Tables
-next tables access address = record {
+next tables access address = record tables {
   cache = accessed tables.cache (line_at (lookup tables access address) address) (is_store access);
-  tlb = filled tables.tlb (address / 4096) access (walked four_frames 0 (address / 4096));
-  predictor = tables.predictor;
+  tlb = filled tables.tlb (address / 4096) access (walked small 0 (address / 4096));
 }
 
 abbrev pub stored : Tables
@@ -47,9 +43,9 @@ loaded = next stored Load 0x12A44
 
 -- a store to page 17, and two loads from 4,096 bytes further on
 pub record Example : Type 0 where
-  pub store : cycles first_tables Store 0x11A44 ≡ instruction + page_walk + miss
-  pub load : cycles stored Load 0x12A44 ≡ instruction + page_walk + miss + write_back
-  pub load_is : cycles stored Load 0x12A44 ≡ 61
-  pub again : cycles loaded Load 0x12A44 ≡ instruction
-  pub neighbour : cycles loaded Load 0x12A7C ≡ instruction
-  pub next_line : cycles loaded Load 0x12A80 ≡ instruction + miss
+  pub store : cost first_tables Store 0x11A44 ≡ instruction + page_walk + miss
+  pub load : cost stored Load 0x12A44 ≡ instruction + page_walk + miss + write_back
+  pub load_is : cost stored Load 0x12A44 ≡ 61
+  pub again : cost loaded Load 0x12A44 ≡ instruction
+  pub neighbour : cost loaded Load 0x12A7C ≡ instruction
+  pub next_line : cost loaded Load 0x12A80 ≡ instruction + miss

@@ -1,7 +1,7 @@
 -- What a row of uses alone tells: that something came and nothing ended it since; and so of loads and stores, with no cache in it.
 use Rattle.std.specs.Prelude.{◌≡◌, ℕ, ◌+◌, true, List, ◌∷◌, ◌++◌, ◌≢◌}
 use Rattle.std.specs.List.{AllByRecursion}
-use Rattle.words.specs.Costs.{miss, write_back}
+use Rattle.costs.specs.Costs.{miss, write_back}
 use Rattle.tables.specs.Cache.{place_of}
 use Rattle.tables.specs.Rows.{Use}
 

@@ -1,11 +1,12 @@
 -- What the definitions of this crate come to.
 use Rattle.std.specs.Prelude.{◌≡◌, ℕ, ◌+◌, ◌-◌, ◌*◌, ◌/◌, ◌%◌, ◌<◌, ◌≤◌, min, Bool, true, false, cond, ◌⊎◌, List, [], ◌∷◌, ◌++◌, length, replicate, is_some, None, Decides, Option, ◌≢◌, slice_index}
 use Rattle.std.specs.List.{AllByRecursion}
-use Rattle.words.specs.Costs.{highest, highest_branch, instruction, miss, misprediction, page_walk, write_back}
+use Rattle.costs.specs.Costs.{miss, misprediction, page_walk, write_back}
+use Rattle.costs.specs.Cycles.{walk_cycles}
 use Rattle.words.specs.First.{weight}
 use Rattle.paging.specs.declared.access.Access.{Access}
 use Rattle.paging.specs.declared.leaf.Leaf.{Leaf}
-use Rattle.paging.specs.declared.translate.Place.{Place}
+use Rattle.paging.specs.declared.place.Place.{Place}
 use Rattle.paging.specs.Walks.{walked}
 use Rattle.tables.specs.declared.cache.Cache.{Cache}
 use Rattle.tables.specs.declared.predictor.Predictor.{Predictor}
@@ -115,7 +116,7 @@ pub record CountersStay : Type 0 where
 
 -- a look-up costs a walk unless the page is known; one that faults fills nothing; after one that does not fault, the page is known
 pub record LookedUp (tlb : Tlb) (page : ℕ) (access : Access) (walk : Option Leaf) : Type 0 where
-  pub cost : (found tlb page access walk).cost ≡ cond (is_some (known tlb page)) 0 page_walk
+  pub cost : walk_cycles (found tlb page access walk).walked ≡ cond (is_some (known tlb page)) 0 page_walk
   pub fault : (found tlb page access walk).frame ≡ None → filled tlb page access walk ≡ tlb
   pub fills : length tlb.entries ≡ 16 → is_some (found tlb page access walk).frame ≡ true → is_some (known (filled tlb page access walk) page) ≡ true
 
@@ -125,8 +126,8 @@ LookUps = (tlb : Tlb) (page : ℕ) (access : Access) (walk : Option Leaf) → Lo
 -- which pages are known after a row of look-ups, and what the next look-up costs: the row alone tells
 pub record PagesRemembered (row : List PageUse) : Type 0 where
   pub is_known : (page : ℕ) → Decides (is_some (known (tlb_after empty_tlb row) page)) (Kept page row)
-  pub no_walk : (u : PageUse) → Kept u.page row → (found (tlb_after empty_tlb row) u.page u.access u.walk).cost ≡ 0
-  pub a_walk : (u : PageUse) → (Kept u.page row → ⊥) → (found (tlb_after empty_tlb row) u.page u.access u.walk).cost ≡ page_walk
+  pub no_walk : (u : PageUse) → Kept u.page row → walk_cycles (found (tlb_after empty_tlb row) u.page u.access u.walk).walked ≡ 0
+  pub a_walk : (u : PageUse) → (Kept u.page row → ⊥) → walk_cycles (found (tlb_after empty_tlb row) u.page u.access u.walk).walked ≡ page_walk
 
 abbrev pub RemembersPages : Type 0
 RemembersPages = (row : List PageUse) → PagesRemembered row
@@ -138,12 +139,3 @@ pub record Honesty : Type 0 where
       Truthful (filled tlb page access (walked words root page)) words root page access (found tlb page access (walked words root page))
   pub moves : (tlb : Tlb) (words others : List ℕ) (root : ℕ) → ((page : ℕ) → walked others root page ≡ walked words root page) →
       Honest tlb words root → Honest tlb others root
-
--- the highest costs hold of what an instruction can meet: two look-ups and an access to the cache, or one look-up and a branch
-pub record Highest : Type 0 where
-  pub data_access : (code tables : Tlb) (cache : Cache) (page other line : ℕ) (a b : Access) (walk way : Option Leaf) →
-      instruction + (found code page a walk).cost + (found tables other b way).cost + access_cost cache line ≤ highest
-  pub branch : (tlb : Tlb) (predictor : Predictor) (page address : ℕ) (a : Access) (walk : Option Leaf) (taken : Bool) →
-      instruction + (found tlb page a walk).cost + branch_cost predictor address taken ≤ highest_branch
-  pub is_91 : highest ≡ 91
-  pub is_34 : highest_branch ≡ 34

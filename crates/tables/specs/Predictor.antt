@@ -1,6 +1,6 @@
 -- The branch predictor: 64 counters from 0 to 3. A branch that is taken counts up, one that is not counts down.
-use Rattle.std.specs.Prelude.{ℕ, ◌+◌, ◌-◌, ◌/◌, ◌%◌, min, Bool, true, false, cond, not, replicate, nat_le, slice_index, slice_set}
-use Rattle.words.specs.Costs.{misprediction}
+use Rattle.std.specs.Prelude.{ℕ, ◌+◌, ◌-◌, ◌/◌, ◌%◌, min, Bool, true, false, not, replicate, nat_le, slice_index, slice_set}
+use Rattle.costs.specs.Cycles.{branch_cycles}
 use Rattle.tables.specs.declared.predictor.Predictor.{Predictor}
 
 -- which counter a branch at an address has
@@ -18,12 +18,14 @@ abbrev pub counted : Bool → ℕ → ℕ
 counted true n = min (n + 1) 3
 counted false n = n - 1
 
-abbrev pub is_right : Predictor → ℕ → Bool → Bool
-is_right predictor address true = predicts predictor address
-is_right predictor address false = not (predicts predictor address)
+-- a branch that is taken, or is not, was predicted wrongly
+abbrev pub mispredicts : Predictor → ℕ → Bool → Bool
+mispredicts predictor address true = not (predicts predictor address)
+mispredicts predictor address false = predicts predictor address
 
+-- and the cycles of that
 abbrev pub branch_cost : Predictor → ℕ → Bool → ℕ
-branch_cost predictor address taken = cond (is_right predictor address taken) 0 misprediction
+branch_cost predictor address taken = branch_cycles (mispredicts predictor address taken)
 
 abbrev pub learned : Predictor → ℕ → Bool → Predictor
 learned predictor address taken = record {

@@ -1,6 +1,6 @@
 -- Rows of loads and stores, one after the other, and what is charged for them.
 use Rattle.std.specs.Prelude.{◌≡◌, ℕ, ◌+◌, Bool, not, ◌&&◌, List, [], ◌∷◌, length, ◌==◌}
-use Rattle.words.specs.Costs.{cache_lines}
+use Rattle.costs.specs.Costs.{cache_lines}
 use Rattle.words.specs.First.{weight}
 use Rattle.tables.specs.declared.cache.Cache.{Cache}
 use Rattle.tables.specs.Cache.{access_cost, accessed, held, hits, is_dirty, place_of}

@@ -1,6 +1,5 @@
 -- The TLB: 16 entries, each with the number of a page and its leaf.
-use Rattle.std.specs.Prelude.{ℕ, ◌%◌, cond, replicate, Some, None, Option, option_map, ◌==◌, slice_index_or, slice_set}
-use Rattle.words.specs.Costs.{page_walk}
+use Rattle.std.specs.Prelude.{ℕ, ◌%◌, Bool, true, false, cond, replicate, Some, None, Option, option_map, ◌==◌, slice_index_or, slice_set}
 use Rattle.paging.specs.declared.access.Access.{Access}
 use Rattle.paging.specs.declared.leaf.Leaf.{Leaf}
 use Rattle.paging.specs.Accesses.{permitted}
@@ -25,18 +24,18 @@ abbrev pub granted : Access → Option Leaf → Option Leaf
 granted access None = None
 granted access (Some leaf) = cond (permitted leaf access) (Some leaf) None
 
--- the answer to an access: a frame, or a fault
-abbrev pub reply : ℕ → Option Leaf → Lookup
-reply cost leaf = record { frame = option_map (λ l. l.frame) leaf; cost = cost }
+-- the answer to an access, with a walk or without one: a frame, or a fault
+abbrev pub reply : Bool → Option Leaf → Lookup
+reply walked leaf = record { frame = option_map (λ l. l.frame) leaf; walked = walked }
 
 -- the answer where a page is known and permits the access
 abbrev pub hit : ℕ → Lookup
-hit frame = record { frame = Some frame; cost = 0 }
+hit frame = record { frame = Some frame; walked = false }
 
 -- a page that is known needs no walk, and faults without one if it does not permit the access
 abbrev pub found_by : Access → Option Leaf → Option Leaf → Lookup
-found_by access (Some leaf) walk = reply 0 (granted access (Some leaf))
-found_by access None walk = reply page_walk (granted access walk)
+found_by access (Some leaf) walk = reply false (granted access (Some leaf))
+found_by access None walk = reply true (granted access walk)
 
 -- the TLB with a page's leaf
 abbrev pub put : Tlb → ℕ → Option Leaf → Tlb

@@ -1,10 +1,11 @@
 // The data cache: which lines of memory are at hand, and which of them are dirty. It holds no words; what is loaded and stored lies in the frames at all times.
-ghost use Rattle.std.specs.Prelude.{◌≡◌, ◌+◌, ◌≤◌};
-ghost use Rattle.words.specs.Costs.{cache_lines, miss, write_back};
-ghost use Rattle.tables.specs.Cache.{AtHand, access_cost, accessed, dirty_count, empty_cache, is_dirty, line_of};
+ghost use Rattle.std.specs.Prelude.{◌≡◌, ◌≤◌};
+ghost use Rattle.costs.specs.Costs.{cache_lines};
+ghost use Rattle.tables.specs.Cache.{AtHand, access_use, accessed, dirty_count, empty_cache, is_dirty, line_of};
 
-use paging::translate::Place;
-use words::costs::{CACHE_LINES, MISS, WRITE_BACK};
+use costs::CACHE_LINES;
+use costs::used::CacheUse;
+use paging::place::Place;
 
 const LINES: usize = CACHE_LINES as usize;
 
@@ -38,12 +39,11 @@ impl Cache {
         }
     }
 
-    // A load or a store: the cycles that it costs beyond its instruction's own.
+    // A load or a store: what the cache does.
     // A frame has as many lines as the cache, so the place of a line in the cache is its place in the frame, and the frame is its tag.
-    pub fn access(&mut self, place: Place, store: bool) -> u32
-        ensures cost { result ≡ access_cost self.old (line_of place) }
+    pub fn access(&mut self, place: Place, store: bool) -> CacheUse
+        ensures does { result ≡ access_use self.old (line_of place) }
         ensures after { self.new ≡ accessed self.old (line_of place) store }
-        ensures most { result ≤ miss + write_back }
         ensures there { AtHand self.new (line_of place) }
     {
         let at = (place.offset / LINE_BYTES) as usize % LINES;
@@ -55,14 +55,14 @@ impl Cache {
                     tag,
                     dirty: line.dirty || store,
                 });
-                0
+                CacheUse::Hit
             }
             _ => {
                 self.lines[at] = Some(Line { tag, dirty: store });
                 if is_dirty(old) {
-                    MISS + WRITE_BACK
+                    CacheUse::DirtyMiss
                 } else {
-                    MISS
+                    CacheUse::Miss
                 }
             }
         }

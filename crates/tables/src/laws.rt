@@ -1,6 +1,6 @@
 // What the definitions of this crate come to, owed by this function's contract.
 ghost use Rattle.tables.specs.Example.{Example};
-ghost use Rattle.tables.specs.Laws.{AccessCosts, Charges, ComesIn, CountersStay, Counts, FrameIsTag, FramesConflict, Highest, Honesty, LookUps, LoopsLeft, LoopsPredicted, Remembers, RemembersPages, WriteBacks};
+ghost use Rattle.tables.specs.Laws.{AccessCosts, Charges, ComesIn, CountersStay, Counts, FrameIsTag, FramesConflict, Honesty, LookUps, LoopsLeft, LoopsPredicted, Remembers, RemembersPages, WriteBacks};
 
 pub fn laws()
     ensures costs { AccessCosts }
@@ -17,6 +17,5 @@ pub fn laws()
     ensures lookups { LookUps }
     ensures pages { RemembersPages }
     ensures honesty { Honesty }
-    ensures highest { Highest }
     ensures example { Example }
 {}

@@ -1,8 +1,8 @@
-// The three tables of the core in which programs leave traces: cache, TLB and branch predictor, and what each use of them costs.
+// The three tables of the core in which programs leave traces: cache, TLB and branch predictor, and what a use of them does.
 #![tactic(auto)]
 
 ghost use Rattle.std.specs.Prelude.{◌≡◌};
-ghost use Rattle.tables.specs.First.{first_tables};
+ghost use Rattle.tables.specs.First.{first_tables, flushed};
 
 use cache::Cache;
 use predictor::Predictor;
@@ -34,7 +34,7 @@ impl Tables {
 
     // Back to the first state, whatever was there. Field by field, since `*self = Tables::new()` copies 1,088 bytes more a slot.
     pub fn reset(&mut self)
-        ensures { self.new ≡ first_tables }
+        ensures { self.new ≡ flushed self.old }
     {
         self.cache = Cache::new();
         self.tlb = Tlb::new();

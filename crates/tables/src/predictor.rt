@@ -1,9 +1,6 @@
 // The branch predictor: counters from 0 to 3 that tell how the branches at a place went of late.
-ghost use Rattle.std.specs.Prelude.{◌≡◌, ◌≤◌};
-ghost use Rattle.words.specs.Costs.{misprediction};
-ghost use Rattle.tables.specs.Predictor.{branch_cost, first_predictor, learned};
-
-use words::costs::MISPREDICTION;
+ghost use Rattle.std.specs.Prelude.{◌≡◌};
+ghost use Rattle.tables.specs.Predictor.{first_predictor, learned, mispredicts};
 
 const COUNTERS: usize = 64;
 
@@ -27,11 +24,10 @@ impl Predictor {
         }
     }
 
-    // A branch at an address is taken or not: the cycles that it costs beyond its instruction's own.
-    pub fn resolve(&mut self, address: u32, taken: bool) -> u32
-        ensures cost { result ≡ branch_cost self.old address taken }
+    // A branch at an address is taken or not: whether that was predicted wrongly.
+    pub fn resolve(&mut self, address: u32, taken: bool) -> bool
+        ensures mispredicted { result ≡ mispredicts self.old address taken }
         ensures after { self.new ≡ learned self.old address taken }
-        ensures most { result ≤ misprediction }
     {
         let at = (address / 4) as usize % COUNTERS;
         let counter = self.counters[at];
@@ -40,10 +36,6 @@ impl Predictor {
         } else {
             counter.saturating_sub(1)
         };
-        if (counter >= TAKEN) == taken {
-            0
-        } else {
-            MISPREDICTION
-        }
+        (counter >= TAKEN) != taken
     }
 }

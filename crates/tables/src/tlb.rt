@@ -1,7 +1,6 @@
 // The TLB: the leaves of pages that were walked before.
-ghost use Rattle.std.specs.Prelude.{◌≡◌, ◌≤◌, None, option_map};
+ghost use Rattle.std.specs.Prelude.{◌≡◌, None, false, option_map};
 ghost use Rattle.std.specs.Option.{ForSome};
-ghost use Rattle.words.specs.Costs.{page_walk};
 ghost use Rattle.paging.specs.Walks.{walked};
 ghost use Rattle.tables.specs.Honest.{Honest, Truthful};
 ghost use Rattle.tables.specs.Tlb.{empty_tlb, filled, found, granted, hit, put, reply};
@@ -9,7 +8,6 @@ ghost use Rattle.tables.specs.Tlb.{empty_tlb, filled, found, granted, hit, put, 
 use paging::access::Access;
 use paging::leaf::Leaf;
 use paging::walk::walk;
-use words::costs::WALK;
 
 const ENTRIES: usize = 16;
 
@@ -30,8 +28,8 @@ pub struct Tlb {
 pub struct Lookup {
     // the frame of a page that is mapped and permits the access; with none the access faults
     pub frame: Option<u32>,
-    // the cycles beyond the instruction's own
-    pub cost: u32,
+    // whether the page table was walked
+    pub walked: bool,
 }
 
 impl Lookup {
@@ -39,11 +37,11 @@ impl Lookup {
     #[cold]
     #[inline(never)]
     fn fault() -> Self
-        ensures { result ≡ reply 0 None }
+        ensures { result ≡ reply false None }
     {
         Lookup {
             frame: None,
-            cost: 0,
+            walked: false,
         }
     }
 }
@@ -59,11 +57,10 @@ impl Tlb {
 
     // Finds the frame of a page for an access, and walks the page tables of the root only where no entry has the page.
     // Only a walk that ends in a leaf with the permission fills an entry. Words and root as for `walk`.
-    #[tactic(auto, using(crate::proofs::Truth::carried_cost), unfolding(crate::specs::Tlb::found, crate::specs::Tlb::filled))]
+    #[tactic(auto, unfolding(crate::specs::Tlb::found, crate::specs::Tlb::filled))]
     pub fn find(&mut self, words: &[u32], root: u32, page: u32, access: Access) -> Lookup
         ensures answer { result ≡ found self.old page access (walked words.now root page) }
         ensures after { self.new ≡ filled self.old page access (walked words.now root page) }
-        ensures most { result.cost ≤ page_walk }
         ensures again { ForSome result.frame (λ frame. found self.new page access None ≡ hit frame) }
         ensures honest { Honest self.old words.now root → Truthful self.new words.now root page access result }
     {
@@ -71,12 +68,12 @@ impl Tlb {
         match entry {
             Some(entry) if entry.page == page && entry.leaf.permits(access) => Lookup {
                 frame: Some(entry.leaf.frame),
-                cost: 0,
+                walked: false,
             },
             Some(entry) if entry.page == page => Lookup::fault(),
             _ => Lookup {
                 frame: self.walk_for(words, root, page, access),
-                cost: WALK,
+                walked: true,
             },
         }
     }

@@ -3,6 +3,4 @@ pub mod Bytes
 pub mod Bits
 pub mod Frames
 pub mod Laws
-pub mod Costs
 pub mod First
-pub mod Events

@@ -3,6 +3,5 @@
 
 pub mod bits;
 pub mod bytes;
-pub mod costs;
 pub mod frames;
 pub mod laws;

@@ -1,19 +1,22 @@
 // Decoding a word anew, and recalling what it decodes to.
 ghost use Rattle.std.specs.Prelude.{◌≡◌, ◌<◌, slice_index_or};
 ghost use Rattle.isa.specs.Decoding.{decoded};
-ghost use Rattle.isa.specs.Remembered.{first_decoder, known, place_of, remembered};
+ghost use Rattle.isa.specs.Remembered.{decoding, first_decoder, kept_at, remembered};
 
-use super::{Decoder, ENTRIES, Known};
+use super::{Decoder, Decoding, REMEMBERED};
 use crate::decode::decode;
 use crate::instruction::Instruction;
 
+// So far apart the words of one program are kept from those of the next: 273 of the 1,024 for each frame between their roots.
+const APART: u32 = 1092;
+
 // A constructor and no `From`: it decodes.
-impl Known {
-    #[tactic(auto, using(crate::proofs::Recalling::one_known))]
+impl Decoding {
+    #[tactic(auto, using(crate::proofs::Recalling::one_decoding))]
     fn new(word: u32) -> Self
-        ensures { result ≡ known word }
+        ensures { result ≡ decoding word }
     {
-        Known {
+        Decoding {
             word,
             instruction: decode(word),
         }
@@ -25,34 +28,38 @@ impl Decoder {
         ensures { result ≡ first_decoder }
     {
         Decoder {
-            known: [Known::new(0); ENTRIES],
+            decodings: [Decoding::new(0); REMEMBERED],
         }
     }
 
-    // The instruction of a word, none where it is illegal. It is decoded anew only where the place of the number has another word: any number will do.
-    pub fn recall(&mut self, number: u32, word: u32) -> &Option<Instruction>
+    // The instruction of the word at an address of a program, none where it is illegal. It is decoded anew only where another word is
+    // remembered for the address and the root: with any of them the answer is the same.
+    #[inline]
+    pub fn recall(&mut self, pc: u32, root: u32, word: u32) -> &Option<Instruction>
         ensures answer { result.now ≡ decoded word }
     {
-        self.remember(number, word);
-        &self.known[place_of(number)].instruction
+        let at = kept_at(pc, root);
+        self.remember(at, word);
+        &self.decodings[at].instruction
     }
 
-    // Sees to it that the place of the number has the word.
-    fn remember(&mut self, number: u32, word: u32)
-        ensures after { self.new ≡ remembered self.old number word }
-        ensures word { (slice_index_or self.new.known (place_of number) (known 0)).word ≡ word }
+    // Sees to it that the word is remembered there.
+    #[inline]
+    fn remember(&mut self, at: usize, word: u32)
+        requires within { at < 1024 }
+        ensures after { self.new ≡ remembered self.old at word }
+        ensures word { (slice_index_or self.new.decodings at (decoding 0)).word ≡ word }
     {
-        let at = place_of(number);
-        if self.known[at].word != word {
-            self.known[at] = Known::new(word);
+        if self.decodings[at].word != word {
+            self.decodings[at] = Decoding::new(word);
         }
     }
 }
 
-// The place that remembers a word of this number.
-fn place_of(number: u32) -> usize
-    ensures place { result ≡ place_of number }
+// Where the word of an address is remembered.
+fn kept_at(pc: u32, root: u32) -> usize
+    ensures place { result ≡ kept_at pc root }
     ensures within { result < 1024 }
 {
-    (number / 4) as usize % ENTRIES
+    (pc.wrapping_add(root.wrapping_mul(APART)) / 4) as usize % REMEMBERED
 }

@@ -5,5 +5,4 @@ use Rattle.isa.proofs.decoder.Decoder.remember.Goals as goal
 
 pub returns-then-self-at-clause-after : goal.returns-then-self-at-clause-after
 returns-then-self-at-clause-after c =
-    takes c.args.self.now c.args.number c.args.word c.place_of-at.result c.index-self-at.result c.new.result
-    c.place_of-at.ensures.place (omega arith) c.if-self-at.true c.new.ensures
+    takes c.args.self.now c.args.word c.args.at c.index-self-at.result c.new.result (omega arith) c.if-self-at.true c.new.ensures

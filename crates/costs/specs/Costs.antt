@@ -28,19 +28,15 @@ copied_word = 1
 abbrev pub cache_lines : ℕ
 cache_lines = 64
 
--- the highest cost of an instruction: a load or store whose code page, data page and line are all missing, over a dirty line
-abbrev pub highest : ℕ
-highest = instruction + page_walk + page_walk + miss + write_back
+-- the worst case of an instruction: a load or store whose code page, data page and line are all missing, over a dirty line
+abbrev pub worst_instruction : ℕ
+worst_instruction = instruction + page_walk + page_walk + miss + write_back
 
--- the highest cost of a branch, which has no data: its code page is missing, and the predictor got it wrong
-abbrev pub highest_branch : ℕ
-highest_branch = instruction + page_walk + misprediction
+-- the worst case of a branch, which has no data: its code page is missing, and the predictor got it wrong
+abbrev pub worst_branch : ℕ
+worst_branch = instruction + page_walk + misprediction
 
 -- the most that can lie between a slot's end and the end of a switch without messages: the last instruction began in the slot's
 -- last cycle, and every line is dirty
-abbrev pub switch : ℕ
-switch = highest - 1 + cache_lines * write_back
-
--- the cost of a message: one frame
-abbrev pub message : ℕ
-message = 1024 * copied_word
+abbrev pub worst_switch : ℕ
+worst_switch = worst_instruction - 1 + cache_lines * write_back
