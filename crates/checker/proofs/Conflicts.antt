@@ -75,19 +75,15 @@ clash_names b d = refl
 
 clash_tables : (b c : Bool) → clash true b c true ≡ true
 unfolding clash
-clash_tables b true = refl
-clash_tables b false = refl
+clash_tables b c = grind arith
 
 clash_own : (c d : Bool) → clash true true c d ≡ true
 unfolding clash
-clash_own true d = refl
-clash_own false true = refl
-clash_own false false = refl
+clash_own c d = grind arith
 
 clash_later : (a d : Bool) → clash a true true d ≡ true
 unfolding clash
-clash_later true d = refl
-clash_later false d = refl
+clash_later a d = grind arith
 
 data Ways (a b c d : Bool) : Type 0 where
   both : a ≡ true → c ≡ true → Ways a b c d

@@ -19,16 +19,10 @@ lent_tells ws f = ((λ e. grind (arith, nat_tests)), λ h. grind (arith, nat_tes
 
 -- valid entries that are not both
 bad_not : (v l b : Bool) → (v && not (l && b)) ≡ false → v ≡ true → (l ≡ true) × (b ≡ true)
-bad_not true true true h v = (refl, refl)
-bad_not true true false h v = absurd (true≢false h)
-bad_not true false b h v = absurd (true≢false h)
-bad_not false l b h v = absurd (true≢false (sym v))
+bad_not v l b h e = grind arith
 
 not_bad : (v l b : Bool) → (v ≡ true → (l ≡ true) × (b ≡ true)) → (v && not (l && b)) ≡ true → ⊥
-not_bad true true true h e = true≢false (sym e)
-not_bad true true false h e = true≢false (sym (h refl).1)
-not_bad true false b h e = true≢false (sym (h refl).0)
-not_bad false l b h e = true≢false (sym e)
+not_bad v l b h e = grind arith
 
 table_good : (ws : List ℕ) (t : ℕ) → bad_table ws t ≡ false → TableFormed ws t
 unfolding bad_table

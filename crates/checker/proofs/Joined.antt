@@ -1,6 +1,7 @@
 -- The rule on the pages of channels: its answer at a channel tells whether the pages fit, or cannot be looked up.
-use Rattle.std.proofs.Common.{◌≡◌, ℕ, true, false, eqb, ◌⊎◌, List, Some, None, Ok, Err, Result, sym, refl, ap, ◌∙◌, inl, inr}
+use Rattle.std.proofs.Common.{◌≡◌, ℕ, true, false, eqb, ◌⊎◌, List, Some, None, Ok, Err, Result, sym, refl, ap, ◌∙◌, inl, inr, arith}
 use Rattle.std.proofs.lemmas.Bool.{eq-eqb, eqb-true, or_cases, or_left, or_right, true≢false}
+use Rattle.std.proofs.lemmas.Bool.Decides.{nat_tests}
 use Rattle.words.specs.First.{any}
 use Rattle.words.proofs.First.{all_not, any_here}
 use Rattle.plan.specs.declared.model.Plan.{Plan}
@@ -24,24 +25,10 @@ both_unlent (Ok x) (Err y) e = inr ((x, refl), cc)
 both_unlent (Err x) s e = inl cc
 
 touch_tells : (a b : Ends) → touch a b ≡ true → Touch a b
-touch_tells a b e = elim (or_cases (eqb a.sender b.sender) _ e) [
-  | inl h ↦ inl (eqb-true a.sender b.sender h)
-  | inr x ↦ elim (or_cases (eqb a.sender b.receiver) _ x) [
-    | inl h ↦ inr (inl (eqb-true a.sender b.receiver h))
-    | inr y ↦ elim (or_cases (eqb a.receiver b.sender) (eqb a.receiver b.receiver) y) [
-      | inl h ↦ inr (inr (inl (eqb-true a.receiver b.sender h)))
-      | inr h ↦ inr (inr (inr (eqb-true a.receiver b.receiver h)))
-    ]
-  ]
-]
+touch_tells a b e = grind (arith, nat_tests)
 
 told_touch : (a b : Ends) → Touch a b → touch a b ≡ true
-told_touch a b (inl h) = or_left (eqb a.sender b.sender) _ (eq-eqb a.sender b.sender h)
-told_touch a b (inr (inl h)) = or_right (eqb a.sender b.sender) _ (or_left (eqb a.sender b.receiver) _ (eq-eqb a.sender b.receiver h))
-told_touch a b (inr (inr (inl h))) =
-    or_right (eqb a.sender b.sender) _ (or_right (eqb a.sender b.receiver) _ (or_left (eqb a.receiver b.sender) _ (eq-eqb a.receiver b.sender h)))
-told_touch a b (inr (inr (inr h))) =
-    or_right (eqb a.sender b.sender) _ (or_right (eqb a.sender b.receiver) _ (or_right (eqb a.receiver b.sender) _ (eq-eqb a.receiver b.receiver h)))
+told_touch a b h = grind (arith, nat_tests)
 
 touches_some : (a : Ends) (r : Result Ends Fault) → touches a r ≡ true → (b : Ends) × (r ≡ Ok b) × (touch a b ≡ true)
 touches_some a (Ok b) e = (b, refl, e)
