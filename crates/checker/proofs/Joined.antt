@@ -15,14 +15,10 @@ use Rattle.checker.proofs.Forms.{faulty_none, faulty_unlent}
 use Rattle.checker.proofs.Ended.{end_unread, end_usable, unread_end, usable_end}
 
 both_ok : (r s : Result ℕ Fault) (a : Ends) → both_ends r s ≡ Ok a → (r ≡ Ok a.sender) × (s ≡ Ok a.receiver)
-both_ok (Ok x) (Ok y) a e = let h : ◌≡◌ {A = Ends} (record { sender = x; receiver = y }) a = cc in (ap (λ z. Ok z.sender) h, ap (λ z. Ok z.receiver) h)
-both_ok (Ok x) (Err y) a e = absurd (cc)
-both_ok (Err x) s a e = absurd (cc)
+both_ok r s a e = grind arith
 
 both_unlent : (r s : Result ℕ Fault) → both_ends r s ≡ Err NotLent → (r ≡ Err NotLent) ⊎ (((f : ℕ) × (r ≡ Ok f)) × (s ≡ Err NotLent))
-both_unlent (Ok x) (Ok y) e = absurd (cc)
-both_unlent (Ok x) (Err y) e = inr ((x, refl), cc)
-both_unlent (Err x) s e = inl cc
+both_unlent r s e = grind arith
 
 touch_tells : (a b : Ends) → touch a b ≡ true → Touch a b
 touch_tells a b e = grind (arith, nat_tests)

@@ -9,8 +9,7 @@ use Rattle.checker.specs.Marks.{names_in}
 use Rattle.checker.specs.Scaffold.{Shows, marked, named_through}
 
 pub or_assoc : (a b c : Bool) → (a || (b || c)) ≡ ((a || b) || c)
-or_assoc true b c = refl
-or_assoc false b c = refl
+or_assoc a b c = grind arith
 
 pub or_unit : (a b : Bool) → b ≡ false → (a || b) ≡ a
 or_unit true b e = refl
@@ -23,9 +22,7 @@ pub marks_none : (was : Bool) (f : ℕ → Bool) → was ≡ (was || any f 0)
 marks_none was f = sym (or_unit was (any f 0) (any_none f))
 
 same : (a b : Bool) → (a ≡ true → b ≡ true) → (b ≡ true → a ≡ true) → a ≡ b
-same true b h k = sym (h refl)
-same false true h k = k refl
-same false false h k = refl
+same a b h k = grind arith
 
 -- what marked tables name, none of them and one more
 module _ (ws : List ℕ) (f : ℕ) where
