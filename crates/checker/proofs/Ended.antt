@@ -1,6 +1,7 @@
 -- The look-up of a channel's pages tells the frames that it joins.
 use Rattle.std.proofs.Common.{◌≡◌, ℕ, ◌+◌, ◌*◌, ◌/◌, ◌%◌, ◌<◌, Bool, true, false, cond, not, ◌&&◌, ltb, ◌⊎◌, List, Some, None, Ok, Err, Option, Result, sym, refl, ap, subst, inl, inr, arith}
 use Rattle.std.proofs.lemmas.Nat.{mod_below}
+use Rattle.std.proofs.lemmas.Bool.Decides.{nat_tests}
 use Rattle.std.proofs.lemmas.Bool.{lt-ltb, ltb-true, true≢false}
 use Rattle.words.specs.Frames.{word}
 use Rattle.paging.specs.declared.leaf.Leaf.{Leaf}
@@ -45,12 +46,10 @@ never_unlent : {X : Type 0} (b : Bool) (x : X) → ◌≡◌ {A = Result X Fault
 never_unlent b x e = grind arith
 
 leaf_ok : (o : Option Leaf) (leaf : Leaf) → leaf_below o ≡ Ok leaf → (o ≡ Some leaf) × (leaf.frame < 256)
-leaf_ok None leaf e = absurd (cc)
-leaf_ok (Some l) leaf e = let z = below_ok (ltb l.frame 256) l leaf e in (ap Some z.1, subst (λ x. x.frame < 256) z.1 (ltb-true l.frame 256 z.0))
+leaf_ok o leaf e = grind (arith, nat_tests)
 
 leaf_lent : (o : Option Leaf) → leaf_below o ≡ Err NotLent → ⊥
-leaf_lent None e = cc
-leaf_lent (Some l) e = never_unlent (ltb l.frame 256) l e
+leaf_lent o e = grind arith
 
 module _ (ws : List ℕ) (r page : ℕ) where
   looked_leads : (leaf : Leaf) → looked_up ws r page ≡ Ok leaf → Leads ws r page leaf
@@ -137,12 +136,10 @@ allowed receives readable writable r w = grind arith
 
 usable_ok : (receives : Bool) (r : Result Leaf Fault) (f : ℕ) → usable receives r ≡ Ok f →
     (leaf : Leaf) × (r ≡ Ok leaf) × (leaf.readable ≡ true) × (receives ≡ true → leaf.writable ≡ false) × (leaf.frame ≡ f)
-usable_ok receives (Err x) f e = absurd (cc)
-usable_ok receives (Ok leaf) f e = let z = permitted receives leaf.readable leaf.writable leaf.frame f e in (leaf, refl, z.0, z.1, z.2)
+usable_ok receives r f e = grind arith
 
 usable_unlent : (receives : Bool) (r : Result Leaf Fault) → usable receives r ≡ Err NotLent → r ≡ Err NotLent
-usable_unlent receives (Err x) e = cc
-usable_unlent receives (Ok leaf) e = absurd (never_unlent (leaf.readable && not (receives && leaf.writable)) leaf.frame e)
+usable_unlent receives r e = grind arith
 
 module _ (ws : List ℕ) (p : Plan) (end : Endpoint) (receives : Bool) where
   pub end_usable : (f : ℕ) → end_frame ws p end receives ≡ Ok f → Usable ws p end receives f

@@ -27,8 +27,7 @@ told_touch : (a b : Ends) → Touch a b → touch a b ≡ true
 told_touch a b h = grind (arith, nat_tests)
 
 touches_some : (a : Ends) (r : Result Ends Fault) → touches a r ≡ true → (b : Ends) × (r ≡ Ok b) × (touch a b ≡ true)
-touches_some a (Ok b) e = (b, refl, e)
-touches_some a (Err x) e = absurd (true≢false (sym e))
+touches_some a r e = grind arith
 
 module _ (ws : List ℕ) (p : Plan) (k : ℕ) where
   behind_joins : (a : Ends) → behind ws p k ≡ Ok a → Joins ws p k a
@@ -55,12 +54,10 @@ module _ (ws : List ℕ) (p : Plan) (k : ℕ) where
 
 module _ (ws : List ℕ) (p : Plan) (k : ℕ) where
   taken_none : (r : Result Ends Fault) → taken_fault ws p k r ≡ None → (a : Ends) × (r ≡ Ok a) × (any (meets ws p a) k ≡ false)
-  taken_none (Err x) e = absurd (cc)
-  taken_none (Ok a) e = (a, refl, faulty_none (any (meets ws p a) k) e)
+  taken_none r e = grind arith
 
   taken_unlent : (r : Result Ends Fault) → taken_fault ws p k r ≡ Some NotLent → r ≡ Err NotLent
-  taken_unlent (Err x) e = cc
-  taken_unlent (Ok a) e = absurd (faulty_unlent (any (meets ws p a) k) e)
+  taken_unlent r e = grind arith
 
   pub none_fit : ends_fault ws p k ≡ None → PagesFit ws p k
   unfolding ends_fault meets
