@@ -75,19 +75,15 @@ clash_names b d = refl
 
 clash_tables : (b c : Bool) → clash true b c true ≡ true
 unfolding clash
-clash_tables b true = refl
-clash_tables b false = refl
+clash_tables b c = grind arith
 
 clash_own : (c d : Bool) → clash true true c d ≡ true
 unfolding clash
-clash_own true d = refl
-clash_own false true = refl
-clash_own false false = refl
+clash_own c d = grind arith
 
 clash_later : (a d : Bool) → clash a true true d ≡ true
 unfolding clash
-clash_later true d = refl
-clash_later false d = refl
+clash_later a d = grind arith
 
 data Ways (a b c d : Bool) : Type 0 where
   both : a ≡ true → c ≡ true → Ways a b c d
@@ -97,13 +93,7 @@ data Ways (a b c d : Bool) : Type 0 where
 
 ways : (a b c d : Bool) → clash a b c d ≡ true → Ways a b c d
 unfolding clash
-ways a b c d e = elim (or_cases (a && (c || (d || b))) (b && c) e) [
-  | inl x ↦ (let y = and_parts a _ x in elim (or_cases c (d || b) y.1) [
-    | inl z ↦ both y.0 z
-    | inr z ↦ elim (or_cases d b z) [ inl w ↦ table y.0 w | inr w ↦ own y.0 w ]
-  ])
-  | inr x ↦ (let y = and_parts b c x in later y.0 y.1)
-]
+ways a b c d e = grind arith
 
 -- a conflict of partition k with one no later, over a frame
 Here : List ℕ → Plan → ℕ → ℕ → Type 0

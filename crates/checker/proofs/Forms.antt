@@ -19,16 +19,10 @@ lent_tells ws f = ((λ e. grind (arith, nat_tests)), λ h. grind (arith, nat_tes
 
 -- valid entries that are not both
 bad_not : (v l b : Bool) → (v && not (l && b)) ≡ false → v ≡ true → (l ≡ true) × (b ≡ true)
-bad_not true true true h v = (refl, refl)
-bad_not true true false h v = absurd (true≢false h)
-bad_not true false b h v = absurd (true≢false h)
-bad_not false l b h v = absurd (true≢false (sym v))
+bad_not v l b h e = grind arith
 
 not_bad : (v l b : Bool) → (v ≡ true → (l ≡ true) × (b ≡ true)) → (v && not (l && b)) ≡ true → ⊥
-not_bad true true true h e = true≢false (sym e)
-not_bad true true false h e = true≢false (sym (h refl).1)
-not_bad true false b h e = true≢false (sym (h refl).0)
-not_bad false l b h e = true≢false (sym e)
+not_bad v l b h e = grind arith
 
 table_good : (ws : List ℕ) (t : ℕ) → bad_table ws t ≡ false → TableFormed ws t
 unfolding bad_table
@@ -44,14 +38,10 @@ good_table ws t h = all_not (bad_leaf_at ws t) 1024 (λ k l e.
 
 -- what a frame's fault says of its tests: below 256, lent
 frame_none : (a b : Bool) → cond a (cond b None (Some NotLent)) (Some Broken) ≡ None → (a ≡ true) × (b ≡ true)
-frame_none true true e = (refl, refl)
-frame_none true false e = absurd (cc)
-frame_none false b e = absurd (cc)
+frame_none a b e = grind arith
 
 frame_unlent : (a b : Bool) → cond a (cond b None (Some NotLent)) (Some Broken) ≡ Some NotLent → (a ≡ true) × (b ≡ false)
-frame_unlent true false e = (refl, refl)
-frame_unlent true true e = absurd (cc)
-frame_unlent false b e = absurd (cc)
+frame_unlent a b e = grind arith
 
 module _ (ws : List ℕ) (f : ℕ) where
   pub none_there : frame_fault ws f ≡ None → InMemory ws f
@@ -71,12 +61,10 @@ module _ (ws : List ℕ) (f : ℕ) where
 
 -- a fault where a test passes
 pub faulty_none : (b : Bool) → ◌≡◌ {A = Option Fault} (cond b (Some Broken) None) None → b ≡ false
-faulty_none true e = absurd (cc)
-faulty_none false e = refl
+faulty_none b e = grind arith
 
 pub faulty_unlent : (b : Bool) → ◌≡◌ {A = Option Fault} (cond b (Some Broken) None) (Some NotLent) → ⊥
-faulty_unlent true e = cc
-faulty_unlent false e = cc
+faulty_unlent b e = grind arith
 
 -- what a fault of an entry says: valid, a pointer, the fault of its table
 module _ where
@@ -85,20 +73,15 @@ module _ where
 
   entered_none : (v q : Bool) (o : Option Fault) → entered v q o ≡ None → v ≡ true → (q ≡ true) × (o ≡ None)
   unfolding entered
-  entered_none true true o e v = (refl, e)
-  entered_none true false o e v = absurd (cc)
-  entered_none false q o e v = absurd (true≢false (sym v))
+  entered_none v q o e h = grind arith
 
   none_entered : (v q : Bool) (o : Option Fault) → (v ≡ true → (q ≡ true) × (o ≡ None)) → entered v q o ≡ None
   unfolding entered
-  none_entered true q o h = rw (h refl).0 (h refl).1
-  none_entered false q o h = refl
+  none_entered v q o h = grind arith
 
   entered_unlent : (v q : Bool) (o : Option Fault) → entered v q o ≡ Some NotLent → (v ≡ true) × (q ≡ true) × (o ≡ Some NotLent)
   unfolding entered
-  entered_unlent true true o e = (refl, refl, e)
-  entered_unlent true false o e = absurd (cc)
-  entered_unlent false q o e = absurd (cc)
+  entered_unlent v q o e = grind arith
 
   unlent_entered : (v q : Bool) (o : Option Fault) → v ≡ true → q ≡ true → o ≡ Some NotLent → entered v q o ≡ Some NotLent
   unfolding entered
@@ -142,8 +125,7 @@ module _ (ws : List ℕ) where
 
   module _ (root : ℕ) where
     formed_split : (b : Bool) (o : Option Fault) → cond b o (Some NotLent) ≡ None → (b ≡ true) × (o ≡ None)
-    formed_split true o e = (refl, e)
-    formed_split false o e = absurd (cc)
+    formed_split b o e = grind arith
 
     pub none_formed : root_fault ws root ≡ None → Formed ws root
     unfolding root_fault
@@ -159,8 +141,7 @@ module _ (ws : List ℕ) where
     formed_none h = rw ((lent_tells ws root).1 h.there) (below_none (entry_fault_at ws root) 1024 (λ k l. good_entry (word ws root k) (h.entries k l)))
 
     unread_split : (b : Bool) (o : Option Fault) → cond b o (Some NotLent) ≡ Some NotLent → (b ≡ false) ⊎ (o ≡ Some NotLent)
-    unread_split true o e = inr e
-    unread_split false o e = inl refl
+    unread_split b o e = grind arith
 
     at_entry : (k : ℕ) → k < 1024 → entry_fault_at ws root k ≡ Some NotLent → ((j : ℕ) → j < k → entry_fault_at ws root j ≡ None) → TablesUnread ws root
     unfolding entry_fault entered

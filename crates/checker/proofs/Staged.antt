@@ -45,13 +45,10 @@ kinds_7 (pages_unread k) r = absurd (omega (arith, r))
 kinds_7 (tables_unread k) r = inr refl
 
 refused_none : (e : Refusal) (o : Option Fault) → refused_by e o ≡ None → o ≡ None
-refused_none e None h = refl
-refused_none e (Some f) h = absurd (cc)
+refused_none e o h = grind arith
 
 refused_some : (e d : Refusal) (o : Option Fault) → refused_by e o ≡ Some d → ((o ≡ Some RuleBroken) × (e ≡ d)) ⊎ ((o ≡ Some NotLent) × (FramesMissing ≡ d))
-refused_some e d None h = absurd (cc)
-refused_some e d (Some RuleBroken) h = inl (refl, cc)
-refused_some e d (Some NotLent) h = inr (refl, cc)
+refused_some e d o h = grind arith
 
 pub root_decides : (words : List ℕ) (p : Plan) (k : ℕ) → Decides (root_kept words p k) (RootFits words p k)
 root_decides words p k = (

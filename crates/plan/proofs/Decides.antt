@@ -18,12 +18,10 @@ use Rattle.plan.proofs.Copying.{cycles_of}
 use Rattle.plan.specs.Lawful.{BudgetFits, ChannelFits, CountFits, PlanLawful, SlotFits, StartFits}
 
 pub passed : (kept : Bool) (e : Refusal) → broken_unless kept e ≡ None → kept ≡ true
-passed true e h = refl
-passed false e h = absurd (cc)
+passed kept e h = grind arith
 
 pub failed : (kept : Bool) (e d : Refusal) → broken_unless kept e ≡ Some d → (kept ≡ false) × (d ≡ e)
-failed true e d h = absurd (cc)
-failed false e d h = (refl, cc)
+failed kept e d h = grind arith
 
 pub named : Named
 named (Truncated at) = refl
@@ -103,13 +101,7 @@ budget_decides p = (
 )
 
 pub count_place_at : (k : ℕ) → k < 3 → place_of (CountRange (count_at k)) ≡ k
-count_place_at k l = elim (cases_eq k 0) [
-  | inl e ↦ rw e refl
-  | inr a ↦ elim (cases_eq k 1) [
-    | inl e ↦ rw e refl
-    | inr b ↦ let e : k ≡ 2 = omega arith in rw e refl
-  ]
-]
+count_place_at k l = grind (arith, nat_tests)
 
 count_is : (c : Count) → count_at (count_place c) ≡ c
 count_is Partitions = refl

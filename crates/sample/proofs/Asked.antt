@@ -34,12 +34,7 @@ on_frames five six seven eight eleven = option_or five (option_or six (option_or
 decided : {X : Type 0} (five six seven eight eleven : Option Refusal) (e : Refusal) (x : X) → on_frames five six seven eight eleven ≡ Some e →
     unless (option_or five (option_or six (option_or seven (option_or eight (option_or None (option_or None (option_or eleven None))))))) x ≡ Err e
 unfolding on_frames
-decided (Some d) b c f g e x h = cc
-decided None (Some d) c f g e x h = cc
-decided None None (Some d) f g e x h = cc
-decided None None None (Some d) g e x h = cc
-decided None None None None (Some d) e x h = cc
-decided None None None None None e x h = absurd (cc)
+decided a b c f g e x h = grind arith
 
 module _ (bytes ws : List ℕ) where
   unfoldable pub faults : Option Refusal

@@ -15,10 +15,7 @@ use Rattle.sample.specs.Verdicts.{Accepts, Examples, Fits, Stands, here, there}
 use Rattle.sample.proofs.Laid.{Tabled, formed, held_0, held_1, joins, lent_at, named_0, named_1, pages, plan_lawful, roots}
 
 pub differ : (x y u v f : ℕ) → (f ≡ x) ⊎ (f ≡ y) → (f ≡ u) ⊎ (f ≡ v) → x ≢ u → x ≢ v → y ≢ u → y ≢ v → ⊥
-differ x y u v f (inl a) (inl b) xu xv yu yv = xu (sym a ∙ b)
-differ x y u v f (inl a) (inr b) xu xv yu yv = xv (sym a ∙ b)
-differ x y u v f (inr a) (inl b) xu xv yu yv = yu (sym a ∙ b)
-differ x y u v f (inr a) (inr b) xu xv yu yv = yv (sym a ∙ b)
+differ x y u v f h k xu xv yu yv = grind arith
 
 -- the second partition's pages are in no frame of the first, nor in a root or a table; they need not be lent
 pub record Spread (l : Layout) : Type 0 where
