@@ -11,8 +11,6 @@ use Rattle.paging.specs.Tables.{Names}
 use Rattle.plan.specs.Example.{example}
 use Rattle.plan.specs.declared.refusal.Refusal.TheVariants.{FramesMissing, Surplus}
 use Rattle.plan.specs.Format.{plan_of, rows}
-use Rattle.plan.specs.Lawful.{Lawful as PlanLawful}
-use Rattle.plan.proofs.Judged.{parsed_lawful}
 use Rattle.plan.proofs.Worked.{worked as plan_worked}
 use Rattle.checker.specs.Checked.{accepted, checked}
 use Rattle.checker.specs.Found.{Lawful}
@@ -51,10 +49,6 @@ blank_longer = record { lends = refl; zero = zero_byte 2 8193 }
 whole : Whole blank
 unfolding blank
 whole = refl
-
--- the plan
-plan_lawful : PlanLawful example
-plan_lawful = (parsed_lawful example (plan_of example) plan_worked.accepted).0
 
 no_channels : (plan_of example).counts.channels ≡ 0
 unfolding plan_of
@@ -117,7 +111,7 @@ module _ (image : List ℕ) (is : Blank image) where
 
   lawful : Lawful example (image_words image)
   lawful = record {
-    plan = plan_lawful;
+    plan = plan_worked.accepted;
     pages = λ k l. absurd (omega (arith, no_channels));
     roots = λ k l. root_fits k (omega (arith, two_partitions));
     tables = λ k l. let h : k < 2 = omega (arith, two_partitions) in formed (root (plan_of example) k) (omega (arith, root_is k h));

@@ -3,8 +3,7 @@ use Rattle.std.specs.Prelude.{◌≡◌, ℕ, ◌<◌, ◌≤◌, ◌⊎◌, Lis
 use Rattle.words.specs.Bytes.{byte}
 use Rattle.words.specs.First.{unless}
 use Rattle.plan.specs.declared.refusal.Refusal.{Refusal}
-use Rattle.plan.specs.Format.{plan_of}
-use Rattle.plan.specs.Rules.{longest}
+use Rattle.plan.specs.Format.{longest, plan_of}
 use Rattle.checker.specs.declared.Accepted.{Accepted}
 use Rattle.checker.specs.Checked.{accepted, checked}
 use Rattle.checker.specs.Found.{FirstFound, Lawful, Sound}
@@ -34,7 +33,13 @@ TellsAll =
     (bytes image : List ℕ) (n m : ℕ) → ((i : ℕ) → byte bytes i < 256) → longest ≤ n → front_size image ≤ m →
     admitted (take n bytes) (image_words (take m image)) (take m image) ≡ admitted bytes (image_words image) image
 
--- what opening a plan with its image gives: the verdict on the plan with the words that the image lends, and with the plan those words
+-- what an opened plan has: the words that the image lends, with which the checker accepts the plan
+pub record OpenedSo (bytes image : List ℕ) (opened : Opened) : Type 0 where
+  pub admits : Admits bytes (image_words image) image (Ok opened.accepted)
+  pub words : opened.words.items ≡ image_words image
+  pub judged : checked bytes opened.words.items ≡ Ok opened.accepted
+
+-- what opening a plan with its image gives: the verdict on the plan with the words that the image lends
 abbrev pub Opens : List ℕ → List ℕ → Result Opened Refusal → Type 0
-Opens bytes image (Ok opened) = Admits bytes (image_words image) image (Ok opened.accepted) × (opened.words.items ≡ image_words image)
+Opens bytes image (Ok opened) = OpenedSo bytes image opened
 Opens bytes image (Err e) = Admits bytes (image_words image) image (Err e)

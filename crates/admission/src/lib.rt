@@ -1,7 +1,8 @@
 // The verdict on a plan with its image, whose words are lent to it.
 #![tactic(auto)]
 
-ghost use Rattle.std.specs.Prelude.{◌≡◌, IfOk};
+ghost use Rattle.std.specs.Prelude.{◌≡◌, IfOk, Ok};
+ghost use Rattle.checker.specs.Checked.{checked};
 ghost use Rattle.admission.specs.Admitted.{Admits, Opens, admitted};
 
 use checker::{Accepted, check as check_plan};
@@ -19,10 +20,11 @@ pub struct Opened {
 pub mod laws;
 
 // The verdict on a plan, the words lent to it, and the image that they were loaded from, whose own rules come last.
-#[tactic(auto, unfolding(crate::specs::Admitted::admitted), using(crate::proofs::Verdict::verdict_as))]
+#[tactic(auto, unfolding(crate::specs::Admitted::admitted), using(crate::proofs::Verdict::verdict_as, crate::proofs::Verdict::judged_as))]
 pub fn admit(plan: &[u8], words: &[u32], image: &[u8]) -> Result<Accepted, Refusal>
     ensures value { result ≡ admitted plan.now words.now image.now }
     ensures verdict { Admits plan.now words.now image.now result }
+    ensures judged { IfOk result (λ accepted. checked plan.now words.now ≡ Ok accepted) }
 {
     let accepted = check_plan(plan, words)?;
     check_image(image)?;

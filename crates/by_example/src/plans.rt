@@ -1,97 +1,114 @@
-// The parser at the edges of each rule, and turns, by example.
+// The checker at the edges of each rule that a plan keeps by itself, and turns, by example.
+use crate::drafts::{Draft, Edit};
 use crate::layout::refused;
+use checker::check;
 use plan::model::Plan;
-use plan::rules::parse;
-use plan::timetable::Turn;
+use std::alloc::{AllocError, Global};
 use std::test::Fail;
+use words::frames::write;
 
-// two partitions, slots of 128 and 1,000,000 cycles, a channel from 0 to 1, and the least budget that is ample with it, 1,754
-const PLAN: [u8; 39] = [
-    2, 2, 1, 0xda, 0x06, 0, 0, //
-    0, 0, 0, 0, 1, 0, //
-    3, 0, 4, 0, 1, 0, //
-    0, 128, 0, 0, 0, //
-    1, 0x40, 0x42, 0x0f, 0, //
-    0, 1, 17, 0, 0, 0, 18, 0, 0, 0,
-];
-
-// Number and place of the refusal, none where the plan is accepted.
-fn verdict(bytes: &[u8]) -> Option<(u8, usize)> {
-    refused(parse(bytes))
+// Two partitions, slots of 128 and 1,000,000 cycles, a channel from 0 to 1, and the budget that this requires, 1,754.
+fn draft() -> Draft {
+    let mut draft = Draft::new(3, [128, 1_000_000], 18);
+    draft.partitions[1].start = 0x1_0004;
+    draft
 }
 
-#[derive(Clone, Copy)]
-struct Edit(usize, u8);
+// How many bytes that has, with the channel and without.
+const SIZE: usize = 39;
+
+const WITHOUT: usize = 29;
+
+// A memory with which it keeps the rules on frames: both partitions may write their page 17, and read their page 18.
+fn memory(heap: Global) -> Result<Vec<u32>, AllocError> {
+    let mut words = vec![in heap; 0u32; 8 * 1024]?;
+    for (frame, k, entry) in [
+        (0, 0, 0x0401),
+        (1, 17, 0x18d7),
+        (1, 18, 0x08d3),
+        (3, 0, 0x1001),
+        (4, 17, 0x14d7),
+        (4, 18, 0x1cd3),
+    ] {
+        write(&mut words, frame, k, entry);
+    }
+    Ok(words)
+}
+
+// Number and place of the refusal, none where the plan is accepted.
+fn verdict(bytes: &[u8], words: &[u32]) -> Option<(u8, usize)> {
+    refused(check(bytes, words))
+}
 
 #[derive(Clone, Copy)]
 struct Case(Edit, Edit, Option<(u8, usize)>);
 
-const SAME: Edit = Edit(0, 2);
-
 // each rule on both sides of its edges, then two broken rules at once
 const CASES: [Case; 33] = [
-    Case(SAME, SAME, None),
-    Case(Edit(1, 0), SAME, Some((2, 1))),
-    Case(Edit(19, 1), SAME, None),
-    Case(Edit(19, 2), SAME, Some((3, 0))),
-    Case(Edit(24, 255), SAME, Some((3, 1))),
-    Case(Edit(20, 127), SAME, Some((3, 0))),
-    Case(Edit(20, 129), SAME, None),
-    Case(Edit(25, 0x41), SAME, Some((3, 1))),
-    Case(Edit(25, 0x3f), SAME, None),
-    Case(Edit(28, 1), SAME, Some((3, 1))),
-    Case(Edit(29, 2), SAME, Some((4, 0))),
-    Case(Edit(29, 1), SAME, Some((4, 0))),
-    Case(Edit(30, 2), SAME, Some((4, 0))),
-    Case(Edit(30, 0), SAME, Some((4, 0))),
-    Case(Edit(29, 1), Edit(30, 0), None),
-    Case(Edit(9, 2), SAME, Some((9, 0))),
-    Case(Edit(9, 4), SAME, None),
-    Case(Edit(15, 5), SAME, Some((9, 1))),
-    Case(Edit(15, 8), SAME, None),
-    Case(Edit(3, 0xd9), SAME, Some((10, 3))),
-    Case(Edit(3, 0xdb), SAME, None),
-    Case(Edit(6, 1), SAME, Some((10, 3))),
-    Case(Edit(4, 0), SAME, Some((10, 3))),
-    Case(Edit(0, 3), SAME, Some((1, 39))),
-    Case(Edit(1, 3), SAME, Some((1, 39))),
-    Case(Edit(2, 2), SAME, Some((1, 39))),
-    Case(Edit(2, 0), SAME, Some((12, 29))),
-    Case(Edit(20, 127), Edit(24, 9), Some((3, 0))),
-    Case(Edit(24, 9), Edit(29, 1), Some((3, 1))),
-    Case(Edit(30, 0), Edit(9, 1), Some((4, 0))),
-    Case(Edit(15, 1), Edit(3, 0), Some((9, 1))),
-    Case(Edit(2, 0), Edit(4, 0), Some((10, 3))),
-    Case(Edit(0, 0), Edit(1, 0), Some((2, 0))),
+    Case(Edit::Nothing, Edit::Nothing, None),
+    Case(Edit::Slots(0), Edit::Nothing, Some((2, 1))),
+    Case(Edit::Runs(1), Edit::Nothing, None),
+    Case(Edit::Runs(2), Edit::Nothing, Some((3, 0))),
+    Case(Edit::OtherRuns(255), Edit::Nothing, Some((3, 1))),
+    Case(Edit::Length(127), Edit::Nothing, Some((3, 0))),
+    Case(Edit::Length(129), Edit::Nothing, None),
+    Case(Edit::OtherLength(1_000_001), Edit::Nothing, Some((3, 1))),
+    Case(Edit::OtherLength(999_999), Edit::Nothing, None),
+    Case(Edit::OtherLength(17_777_216), Edit::Nothing, Some((3, 1))),
+    Case(Edit::Sender(2), Edit::Nothing, Some((4, 0))),
+    Case(Edit::Sender(1), Edit::Nothing, Some((4, 0))),
+    Case(Edit::Receiver(2), Edit::Nothing, Some((4, 0))),
+    Case(Edit::Receiver(0), Edit::Nothing, Some((4, 0))),
+    Case(Edit::Sender(1), Edit::Receiver(0), None),
+    Case(Edit::Start(0x1_0002), Edit::Nothing, Some((9, 0))),
+    Case(Edit::Start(0x1_0004), Edit::Nothing, None),
+    Case(Edit::OtherStart(0x1_0005), Edit::Nothing, Some((9, 1))),
+    Case(Edit::OtherStart(0x1_0008), Edit::Nothing, None),
+    Case(Edit::Budget(1753), Edit::Nothing, Some((10, 3))),
+    Case(Edit::Budget(1755), Edit::Nothing, None),
+    Case(Edit::Budget(0x100_06da), Edit::Nothing, Some((10, 3))),
+    Case(Edit::Budget(218), Edit::Nothing, Some((10, 3))),
+    Case(Edit::Partitions(3), Edit::Nothing, Some((1, SIZE))),
+    Case(Edit::Slots(3), Edit::Nothing, Some((1, SIZE))),
+    Case(Edit::Channels(2), Edit::Nothing, Some((1, SIZE))),
+    Case(Edit::Channels(0), Edit::Nothing, Some((12, WITHOUT))),
+    Case(Edit::Length(127), Edit::OtherRuns(9), Some((3, 0))),
+    Case(Edit::OtherRuns(9), Edit::Sender(1), Some((3, 1))),
+    Case(Edit::Receiver(0), Edit::Start(0x1_0001), Some((4, 0))),
+    Case(Edit::OtherStart(0x1_0001), Edit::Budget(1536), Some((9, 1))),
+    Case(Edit::Channels(0), Edit::Budget(218), Some((10, 3))),
+    Case(Edit::Partitions(0), Edit::Slots(0), Some((2, 0))),
 ];
 
 #[test]
-fn each_rule_at_its_edges(rt: HostRuntime) {
-    for case in &CASES {
-        let mut bytes = PLAN;
-        let Case(Edit(at, value), Edit(also, other), expected) = *case;
-        assert!(rt; at < 39 && also < 39);
-        bytes[at] = value;
-        if also != 0 {
-            bytes[also] = other;
-        }
-        assert_eq!(rt; verdict(&bytes), expected);
+fn each_rule_at_its_edges(rt: HostRuntime) -> Result<(), Fail> {
+    let words = memory(rt.alloc())?;
+    for Case(edit, also, expected) in CASES {
+        let mut draft = draft();
+        edit.apply(&mut draft);
+        also.apply(&mut draft);
+        assert_eq!(rt; verdict(&draft.bytes(rt.alloc())?, &words), expected);
     }
+    Ok(())
 }
 
 #[test]
-fn bytes_too_few_and_too_many(rt: HostRuntime) {
+fn bytes_too_few_and_too_many(rt: HostRuntime) -> Result<(), Fail> {
+    let words = memory(rt.alloc())?;
+    let mut plan = draft().bytes(rt.alloc())?;
+    assert!(rt; plan.len() == SIZE);
     // every front of the plan, by its length
-    for length in 0..39 {
-        assert_eq!(rt; verdict(&PLAN[0..length]), Some((1, length)));
+    for length in 0..SIZE {
+        assert_eq!(rt; verdict(&plan[0..length], &words), Some((1, length)));
     }
-    let mut longer = [0; 40];
-    longer[0..39].copy_from_slice(&PLAN);
-    assert_eq!(rt; verdict(&longer), Some((12, 39)));
+    plan.push(0)?;
+    assert_eq!(rt; verdict(&plan, &words), Some((12, SIZE)));
+    Ok(())
 }
 
 #[test]
-fn counts_past_their_range(rt: HostRuntime) {
+fn counts_past_their_range(rt: HostRuntime) -> Result<(), Fail> {
+    let words = memory(rt.alloc())?;
     for (counts, number, place) in [
         ([9, 64, 16], 2, 0),
         ([8, 65, 16], 2, 1),
@@ -100,21 +117,24 @@ fn counts_past_their_range(rt: HostRuntime) {
     ] {
         let mut bytes = [0; 700];
         bytes[0..3].copy_from_slice(&counts);
-        assert_eq!(rt; verdict(&bytes), Some((number, place)));
+        assert_eq!(rt; verdict(&bytes, &words), Some((number, place)));
     }
+    Ok(())
 }
 
 // one partition, one slot and no channel pass the counts' rule: a slot of 0 cycles is refused then
 #[test]
-fn counts_below_their_range(rt: HostRuntime) {
+fn counts_below_their_range(rt: HostRuntime) -> Result<(), Fail> {
+    let words = memory(rt.alloc())?;
     for (counts, number, place) in [([0, 1, 0], 2, 0), ([1, 0, 0], 2, 1), ([1, 1, 0], 3, 0)] {
         let mut bytes = [0; 18];
         bytes[0..3].copy_from_slice(&counts);
-        assert_eq!(rt; verdict(&bytes), Some((number, place)));
+        assert_eq!(rt; verdict(&bytes, &words), Some((number, place)));
     }
+    Ok(())
 }
 
-// budgets, and whether each is in range and ample with the channel and without it
+// budgets, and whether each is in range and covers what is required with the channel and without it
 const BUDGETS: [(u32, bool, bool); 7] = [
     (63, false, false),
     (729, false, false),
@@ -125,45 +145,34 @@ const BUDGETS: [(u32, bool, bool); 7] = [
     (100_001, false, false),
 ];
 
-fn refused_unless(ample: bool) -> Option<(u8, usize)> {
-    if ample { None } else { Some((10, 3)) }
+fn refused_unless(covers: bool) -> Option<(u8, usize)> {
+    if covers { None } else { Some((10, 3)) }
 }
 
 #[test]
-fn budgets(rt: HostRuntime) {
-    for (budget, ample_with, ample_without) in BUDGETS {
-        let mut plan = PLAN;
-        plan[3..7].copy_from_slice(&budget.to_le_bytes());
-        assert_eq!(rt; verdict(&plan), refused_unless(ample_with));
-        plan[2] = 0;
-        assert_eq!(rt; verdict(&plan[0..29]), refused_unless(ample_without));
-    }
-}
-
-#[test]
-fn turns_end_before_they_wrap(rt: HostRuntime) -> Result<(), Fail> {
-    let Ok(plan) = parse(&PLAN) else {
-        return Err(Fail::new("refused"));
-    };
-    let second = Turn::first().next(&plan).ok_or("no second turn")?;
-    assert_eq!(rt; (second.number, second.begin), (1, 128 + 1754));
-    assert_eq!(rt; second.slot(&plan).partition, 1);
-    let latest = u64::MAX - (128 + 1754);
-    for (number, begin, comes) in [
-        (0, latest, true),
-        (0, latest + 1, false),
-        (u32::MAX - 1, 0, true),
-        (u32::MAX, 0, false),
-    ] {
-        assert_eq!(rt; Turn { number, begin }.next(&plan).is_some(), comes);
+fn budgets(rt: HostRuntime) -> Result<(), Fail> {
+    let words = memory(rt.alloc())?;
+    for (budget, covers_with, covers_without) in BUDGETS {
+        let mut draft = draft();
+        draft.budget = budget;
+        let plan = draft.bytes(rt.alloc())?;
+        assert_eq!(rt; verdict(&plan, &words), refused_unless(covers_with));
+        draft.counts[2] = 0;
+        let plan = draft.bytes(rt.alloc())?;
+        assert!(rt; WITHOUT < plan.len());
+        assert_eq!(rt;
+            verdict(&plan[0..WITHOUT], &words),
+            refused_unless(covers_without)
+        );
     }
     Ok(())
 }
 
 #[test]
-fn slots_go_round(rt: HostRuntime) {
-    let plan = Plan::read(&PLAN);
+fn slots_go_round(rt: HostRuntime) -> Result<(), Fail> {
+    let plan = Plan::read(&draft().bytes(rt.alloc())?);
     assert_eq!(rt; plan.slot_of(1).partition, 1);
     assert_eq!(rt; plan.slot_of(2).partition, plan.slot_of(0).partition);
     assert_eq!(rt; plan.slot_of(u32::MAX).partition, 1);
+    Ok(())
 }

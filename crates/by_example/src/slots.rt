@@ -6,7 +6,6 @@ use hart::cause::Cause;
 use hart::context::State;
 use isa::decoder::Decoder;
 use kernel::machine::Machine;
-use kernel::messages::deliver;
 use kernel::report::Report;
 use plan::model::{Channel, Counts, Endpoint, MOST_CHANNELS, Partition, Plan, Slot};
 use std::test::Fail;
@@ -105,13 +104,15 @@ fn a_slot_of_no_partition(rt: HostRuntime) {
 // A message goes after a slot of its sender, and after no other.
 #[test]
 fn messages(rt: HostRuntime) {
-    let mut accepted = accepted(0);
     for (channels, who, arrives) in [(1, 0, true), (1, 1, false), (0, 0, false)] {
+        let mut accepted = accepted(who);
         accepted.plan.counts.channels = channels;
         let mut words = [0; 5120];
         write(&mut words, 3, 1023, 9);
         write(&mut words, 4, 0, 5);
-        deliver(&accepted, who, &mut words);
+        let mut machine = Machine::load(&accepted.plan);
+        let report = machine.run_slot(&accepted, &mut words, &mut Decoder::new());
+        assert_eq!(rt; report.is_some(), true);
         assert_eq!(rt; read(&words, 4, 1023), if arrives { 9 } else { 0 });
         assert_eq!(rt; read(&words, 4, 0), if arrives { 0 } else { 5 });
         assert_eq!(rt; read(&words, 3, 1023), 9);

@@ -1,19 +1,16 @@
 // The checker run on the plans and memories of the crate `sample`: what its theorems say, and more verdicts.
+use crate::drafts::Draft;
 use checker::check;
 use std::alloc::{AllocError, Global};
 use std::test::Fail;
 use words::frames::write;
 
 // The plan, but for the root of the second partition, and the channel's sender, receiver and the receiver's page.
-fn planned(root: u8, sender: u8, receiver: u8, page: u8) -> [u8; 39] {
-    [
-        2, 2, 1, 0xda, 0x06, 0, 0, //
-        0, 0, 0, 0, 1, 0, //
-        root, 0, 0, 0, 1, 0, //
-        0, 200, 0, 0, 0, //
-        1, 128, 0, 0, 0, //
-        sender, receiver, 17, 0, 0, 0, page, 0, 0, 0,
-    ]
+fn planned(heap: Global, root: u16, sender: u8, receiver: u8, page: u32) -> Result<Vec<u8>, AllocError> {
+    let mut draft = Draft::new(root, [200, 128], page);
+    draft.channel.sender.partition = sender;
+    draft.channel.receiver.partition = receiver;
+    draft.bytes(heap)
 }
 
 const POINTER: u32 = 0x01;
@@ -86,7 +83,7 @@ fn layouts(rt: HostRuntime) -> Result<(), Fail> {
             flags,
         };
         let words = memory(rt.alloc(), layout, frames)?;
-        assert_eq!(rt; verdict(&planned(3, 0, 1, 17), &words), expected);
+        assert_eq!(rt; verdict(&planned(rt.alloc(), 3, 0, 1, 17)?, &words), expected);
     }
     Ok(())
 }
@@ -108,7 +105,7 @@ fn plans(rt: HostRuntime) -> Result<(), Fail> {
         (0, 0, 1, 16, Err((6, 1))),
     ] {
         assert_eq!(rt;
-            verdict(&planned(root, sender, receiver, page), &words),
+            verdict(&planned(rt.alloc(), root, sender, receiver, page)?, &words),
             expected
         );
     }

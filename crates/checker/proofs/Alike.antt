@@ -3,9 +3,10 @@ use Rattle.std.proofs.Common.{◌≡◌, ℕ, List, sym, refl, ap, ◌∙◌, su
 use Rattle.plan.specs.declared.refusal.Refusal.{Refusal}
 use Rattle.plan.specs.declared.refusal.Refusal.TheVariants.{ChannelPage, TableMalformed}
 use Rattle.plan.specs.Refused.{number_of, place_of, refusal}
-use Rattle.plan.proofs.Stages.{at_number, named}
+use Rattle.plan.proofs.Decides.{at_number, named, same_number}
 use Rattle.checker.specs.Found.{Finding, Found, OneFirst, found_at, refusal_of, rule_of}
 use Rattle.checker.specs.Found.Finding.{broken, pages_unread, tables_unread}
+use Rattle.checker.proofs.Judged.{ranked}
 
 module _ (bytes words : List ℕ) where
   -- a rule is not both broken at a place and stopped there
@@ -36,6 +37,6 @@ pub one_first : OneFirst
 one_first bytes words e d f g =
     let a = f.first g.finding g.found in
     let b = g.first f.finding f.found in
-    let rule : rule_of f.finding ≡ rule_of g.finding = omega (arith, a, b) in
+    let rule = same_number (rule_of f.finding) (rule_of g.finding) (ranked f.finding) (ranked g.finding) (omega (arith, a, b)) in
     let place : found_at f.finding ≡ found_at g.finding = omega (arith, a, b) in
     sym f.leads_to ∙ alike bytes words f.finding g.finding f.found g.found rule place ∙ g.leads_to

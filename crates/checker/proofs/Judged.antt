@@ -1,7 +1,8 @@
 -- The checker's answer is the verdict that the rules ask for.
-use Rattle.std.proofs.Common.{◌≡◌, ℕ, ◌<◌, ◌≤◌, Bool, true, false, ◌⊎◌, List, get_or, Some, None, Ok, Option, sym, refl, ◌∙◌, subst, inl, inr, arith}
-use Rattle.std.proofs.lemmas.Bool.{cases_eq, cases_lt, cond-true, lt-ltb}
+use Rattle.std.proofs.Common.{◌≡◌, ℕ, ◌<◌, Bool, true, false, List, ◌∷◌, length, get_or, Some, None, Ok, Decides, Option, sym, refl, ◌∙◌, subst, inl, inr, arith}
+use Rattle.std.proofs.lemmas.Bool.{both_ways, cases_Bool, cases_eq, cases_lt, cond-true, lt-ltb}
 use Rattle.std.proofs.lemmas.Result.{MatchResult-at_ok}
+use Rattle.std.specs.Option.{option_or}
 use Rattle.paging.specs.declared.leaf.Leaf.{Leaf}
 use Rattle.paging.specs.Mapping.{Maps}
 use Rattle.paging.specs.Tables.{Names}
@@ -10,12 +11,12 @@ use Rattle.plan.specs.declared.model.Endpoint.{Endpoint}
 use Rattle.plan.specs.declared.refusal.Count.TheVariants.{Channels}
 use Rattle.plan.specs.declared.refusal.Refusal.{Refusal}
 use Rattle.plan.specs.declared.refusal.Refusal.TheVariants.{Truncated, CountRange, SlotRule, ChannelRule, ChannelPage, RootRule, TableMalformed, FrameShared, StartMisaligned, BudgetRule, FramesMissing, Surplus}
-use Rattle.plan.specs.Format.{plan_of}
-use Rattle.plan.specs.Rules.{channel}
-use Rattle.plan.proofs.Chain.{After, chain, last}
-use Rattle.plan.proofs.Kept.{decided, kept_lawful, lawful_kept}
+use Rattle.plan.specs.Format.{plan_of, plan_size}
+use Rattle.plan.specs.Lawful.{PlanLawful}
+use Rattle.plan.specs.Refused.{Ranked, turns}
+use Rattle.plan.specs.Rules.{budget_kept, channel, channel_kept, count_kept, slot_kept, start_kept}
+use Rattle.plan.proofs.Decides.{all_ranked, budget_decides, channel_decides, count_decides, slot_decides, start_decides}
 use Rattle.plan.proofs.Rows.{rows_at}
-use Rattle.plan.proofs.Stages.{truncated_stage, counts_stage, slots_stage, channels_stage, starts_stage, budget_stage, surplus_stage}
 use Rattle.checker.specs.declared.Accepted.{Accepted}
 use Rattle.checker.specs.declared.fault.Fault.{Fault}
 use Rattle.checker.specs.declared.fault.Fault.TheVariants.{Broken as RuleBroken, NotLent}
@@ -27,68 +28,60 @@ use Rattle.checker.specs.Tables.{root_fault}
 use Rattle.checker.specs.Lawful.{Apart, Formed, Leads, PagesFit, Usable, root}
 use Rattle.checker.specs.Found.{AcceptedSeparate, AcceptedUnshared, Behind, ChannelJoins, Finding, FirstFound, Found, Judges, Lawful, Separate, Sound, found_at, refusal_of, rule_of}
 use Rattle.checker.specs.Found.Finding.{broken, pages_unread, tables_unread}
+use Rattle.checker.proofs.Chain.{Asked, chain, last}
 use Rattle.checker.proofs.Forms as forms
 use Rattle.checker.proofs.Joined as joined
 use Rattle.checker.proofs.Conflicts.{apart_decides, lent_decides}
 use Rattle.checker.proofs.Leading.{leads_maps, named_leaf}
-use Rattle.checker.proofs.Staged.{Own, all_formed, found_own, lent_stage, lifted, pages_stage, root_decides, roots_stage, sharing_stage, tables_stage}
+use Rattle.checker.proofs.Staged.{Staged, all_formed, budget_stage, channels_stage, counts_stage, lent_stage, pages_stage, root_decides, roots_stage, sharing_stage, slots_stage, starts_stage, surplus_stage, tables_stage, truncated_stage}
 
-between : (d : Finding) → (0 < rule_of d) × (rule_of d ≤ 12)
-between (broken (Truncated at)) = (omega arith, omega arith)
-between (broken (CountRange c)) = (omega arith, omega arith)
-between (broken (SlotRule k)) = (omega arith, omega arith)
-between (broken (ChannelRule k)) = (omega arith, omega arith)
-between (broken (ChannelPage k)) = (omega arith, omega arith)
-between (broken (RootRule k)) = (omega arith, omega arith)
-between (broken (TableMalformed k)) = (omega arith, omega arith)
-between (broken (FrameShared k)) = (omega arith, omega arith)
-between (broken (StartMisaligned k)) = (omega arith, omega arith)
-between (broken BudgetRule) = (omega arith, omega arith)
-between (broken FramesMissing) = (omega arith, omega arith)
-between (broken (Surplus at)) = (omega arith, omega arith)
-between (pages_unread k) = (omega arith, omega arith)
-between (tables_unread k) = (omega arith, omega arith)
+decided : {P : Type 0} (t : Bool) → Decides t P → ((P → ⊥) → ⊥) → P
+decided t d h = elim (cases_Bool t) [ inl e ↦ d.0 e | inr e ↦ absurd (h (λ p. both_ways t e (d.1 p))) ]
 
-own : (n : ℕ) → ((n < 5) ⊎ ((8 < n) × (n ≡ 11 → ⊥))) → Own n
-own n (inl l) = ((λ e. omega arith), (λ e. omega arith), (λ e. omega arith), (λ e. omega arith), λ e. omega arith)
-own n (inr l) = ((λ e. omega (arith, l.0)), (λ e. omega (arith, l.0)), (λ e. omega (arith, l.0)), (λ e. omega (arith, l.0)), l.1)
-
-low : (n : ℕ) → n < 5 → Own n
-low n l = own n (inl l)
+-- the rule of a finding has a turn
+pub ranked : (d : Finding) → Ranked (rule_of d)
+ranked (broken e) = all_ranked e
+ranked (pages_unread k) = all_ranked (ChannelPage k)
+ranked (tables_unread k) = all_ranked (TableMalformed k)
 
 module _ (bytes words : List ℕ) where
-  all : After rule_of found_at refusal_of (Found bytes words) (first_refusal bytes words (plan_of bytes)) 0
+  abbrev AskedSo : Option Refusal → List ℕ → Type 0
+  AskedSo s ns = Asked rule_of found_at refusal_of (Found bytes words) s ns
+
+  next : (s r : Option Refusal) (n : ℕ) (ns : List ℕ) → Staged bytes words s n → (s ≡ None → AskedSo r ns) → AskedSo (option_or s r) (n ∷ ns)
+  next = chain rule_of found_at refusal_of (Found bytes words)
+
+  all : AskedSo (first_refusal bytes words (plan_of bytes)) turns
   unfolding first_refusal
   all =
-      let high : (n : ℕ) → 8 < n → (n ≡ 11 → ⊥) → Own n = λ n l h. own n (inr (l, h)) in
-      chain rule_of found_at refusal_of (Found bytes words) _ _ 0 1 (omega arith) (λ d l b. omega arith) (lifted bytes words _ 1 (low 1 (omega arith)) (truncated_stage bytes)) (λ _.
-      chain rule_of found_at refusal_of (Found bytes words) _ _ 1 2 (omega arith) (λ d l b. omega arith) (lifted bytes words _ 2 (low 2 (omega arith)) (counts_stage bytes)) (λ _.
-      chain rule_of found_at refusal_of (Found bytes words) _ _ 2 3 (omega arith) (λ d l b. omega arith) (lifted bytes words _ 3 (low 3 (omega arith)) (slots_stage bytes)) (λ _.
-      chain rule_of found_at refusal_of (Found bytes words) _ _ 3 4 (omega arith) (λ d l b. omega arith) (lifted bytes words _ 4 (low 4 (omega arith)) (channels_stage bytes)) (λ _.
-      chain rule_of found_at refusal_of (Found bytes words) _ _ 4 5 (omega arith) (λ d l b. omega arith) (pages_stage bytes words) (λ _.
-      chain rule_of found_at refusal_of (Found bytes words) _ _ 5 6 (omega arith) (λ d l b. omega arith) (roots_stage bytes words) (λ _.
-      chain rule_of found_at refusal_of (Found bytes words) _ _ 6 7 (omega arith) (λ d l b. omega arith) (tables_stage bytes words) (λ formed.
-      chain rule_of found_at refusal_of (Found bytes words) _ _ 7 8 (omega arith) (λ d l b. omega arith) (sharing_stage bytes words (all_formed bytes words formed)) (λ _.
-      chain rule_of found_at refusal_of (Found bytes words) _ _ 8 9 (omega arith) (λ d l b. omega arith) (lifted bytes words _ 9 (high 9 (omega arith) (λ e. omega arith)) (starts_stage bytes)) (λ _.
-      chain rule_of found_at refusal_of (Found bytes words) _ _ 9 10 (omega arith) (λ d l b. omega arith) (lifted bytes words _ 10 (high 10 (omega arith) (λ e. omega arith)) (budget_stage bytes)) (λ _.
-      chain rule_of found_at refusal_of (Found bytes words) _ _ 10 11 (omega arith) (λ d l b. omega arith) (lent_stage bytes words (all_formed bytes words formed)) (λ _.
-      last rule_of found_at refusal_of (Found bytes words) _ 11 12 (omega arith) (λ d l b. omega (arith, (between d).1)) (lifted bytes words _ 12 (high 12 (omega arith) (λ e. omega arith)) (surplus_stage bytes)))))))))))))
+      next _ _ _ _ (truncated_stage bytes words) (λ _.
+      next _ _ _ _ (counts_stage bytes words) (λ _.
+      next _ _ _ _ (slots_stage bytes words) (λ _.
+      next _ _ _ _ (channels_stage bytes words) (λ _.
+      next _ _ _ _ (pages_stage bytes words) (λ _.
+      next _ _ _ _ (roots_stage bytes words) (λ _.
+      next _ _ _ _ (tables_stage bytes words) (λ formed.
+      next _ _ _ _ (sharing_stage bytes words (all_formed bytes words formed)) (λ _.
+      next _ _ _ _ (starts_stage bytes words) (λ _.
+      next _ _ _ _ (budget_stage bytes words) (λ _.
+      next _ _ _ _ (lent_stage bytes words (all_formed bytes words formed)) (λ _.
+      last rule_of found_at refusal_of (Found bytes words) _ _ (surplus_stage bytes words))))))))))))
 
   -- nothing is found where all rules are kept
   lawful_none : Lawful bytes words → (d : Finding) → Found bytes words d → ⊥
   unfolding Found
-  lawful_none h (broken (Truncated at)) b = lawful_kept bytes h.plan (Truncated at) b
-  lawful_none h (broken (CountRange c)) b = lawful_kept bytes h.plan (CountRange c) b
-  lawful_none h (broken (SlotRule k)) b = lawful_kept bytes h.plan (SlotRule k) b
-  lawful_none h (broken (ChannelRule k)) b = lawful_kept bytes h.plan (ChannelRule k) b
+  lawful_none h (broken (Truncated at)) b = omega (arith, h.plan.whole, b.0)
+  lawful_none h (broken (CountRange c)) b = b (h.plan.counts c)
+  lawful_none h (broken (SlotRule k)) b = b.1 (h.plan.slots k b.0)
+  lawful_none h (broken (ChannelRule k)) b = b.1 (h.plan.channels k b.0)
   lawful_none h (broken (ChannelPage k)) b = b.2 (h.pages k b.0)
   lawful_none h (broken (RootRule k)) b = b.1 (h.roots k b.0)
   lawful_none h (broken (TableMalformed k)) b = b.2 (h.tables k b.0)
   lawful_none h (broken (FrameShared k)) b = b.1 (λ j l c. elim c [ inl x ↦ h.apart k j b.0 (omega (arith, b.0)) x | inr x ↦ h.apart j k (omega (arith, b.0)) b.0 x ])
-  lawful_none h (broken (StartMisaligned k)) b = lawful_kept bytes h.plan (StartMisaligned k) b
-  lawful_none h (broken BudgetRule) b = lawful_kept bytes h.plan BudgetRule b
+  lawful_none h (broken (StartMisaligned k)) b = b.1 (h.plan.starts k b.0)
+  lawful_none h (broken BudgetRule) b = b h.plan.budget
   lawful_none h (broken FramesMissing) b = b h.all_lent
-  lawful_none h (broken (Surplus at)) b = lawful_kept bytes h.plan (Surplus at) b
+  lawful_none h (broken (Surplus at)) b = omega (arith, h.plan.no_surplus, b.0)
   lawful_none h (pages_unread k) b = let e = joined.unread_unlent words (plan_of bytes) k b.1 in let f = joined.fit_none words (plan_of bytes) k (h.pages k b.0) in cc
   lawful_none h (tables_unread k) b =
       let r = root (plan_of bytes) k in
@@ -120,20 +113,34 @@ module _ (bytes words : List ℕ) where
 
     apart_at : (k : ℕ) → k < (plan_of bytes).counts.partitions → Apart words (plan_of bytes) k
     unfolding Found
-    apart_at k l = decided bytes (apart_kept words (plan_of bytes) k) (apart_decides words (plan_of bytes) k (λ q h. all_formed_here q (omega arith))) (λ f. none (broken (FrameShared k)) (l, f))
+    apart_at k l = decided (apart_kept words (plan_of bytes) k) (apart_decides words (plan_of bytes) k (λ q h. all_formed_here q (omega arith))) (λ f. none (broken (FrameShared k)) (l, f))
+
+    plan_lawful : PlanLawful bytes
+    unfolding Found
+    plan_lawful =
+        let p = plan_of bytes in
+        record {
+          whole = elim (cases_lt (length bytes) (plan_size p.counts)) [ inl l ↦ absurd (none (broken (Truncated (length bytes))) (l, refl)) | inr l ↦ l ];
+          counts = λ c. decided (count_kept p.counts c) (count_decides p c) (none (broken (CountRange c)));
+          slots = λ k l. decided (slot_kept p k) (slot_decides p k) (λ f. none (broken (SlotRule k)) (l, f));
+          channels = λ k l. decided (channel_kept p k) (channel_decides p k) (λ f. none (broken (ChannelRule k)) (l, f));
+          starts = λ k l. decided (start_kept p k) (start_decides p k) (λ f. none (broken (StartMisaligned k)) (l, f));
+          budget = decided (budget_kept p) (budget_decides p) (none (broken BudgetRule));
+          no_surplus = elim (cases_lt (plan_size p.counts) (length bytes)) [ inl l ↦ absurd (none (broken (Surplus (plan_size p.counts))) (l, refl)) | inr l ↦ l ];
+        }
 
     none_lawful : Lawful bytes words
     unfolding Found
     none_lawful = record {
-      plan = kept_lawful bytes (λ d b. none (broken d) (found_own bytes words d b));
+      plan = plan_lawful;
       pages = λ k l. fits_at k l (ends_fault words (plan_of bytes) k) refl;
-      roots = λ k l. decided bytes (root_kept words (plan_of bytes) k) (root_decides bytes words (plan_of bytes) k) (λ f. none (broken (RootRule k)) (l, f));
+      roots = λ k l. decided (root_kept words (plan_of bytes) k) (root_decides words (plan_of bytes) k) (λ f. none (broken (RootRule k)) (l, f));
       tables = all_formed_here;
       apart = λ a b la lb c. elim (cases_lt a b) [
         | inl l ↦ apart_at b lb a (omega arith) (inr c)
         | inr l ↦ apart_at a la b l (inl c)
       ];
-      all_lent = decided bytes (lent_kept words (plan_of bytes)) (lent_decides words (plan_of bytes) all_formed_here) (none (broken FramesMissing));
+      all_lent = decided (lent_kept words (plan_of bytes)) (lent_decides words (plan_of bytes) all_formed_here) (none (broken FramesMissing));
     }
 
   module _ (lawful : Lawful bytes words) where
@@ -166,13 +173,13 @@ module _ (bytes words : List ℕ) where
   judged_at : (o : Option Refusal) → first_refusal bytes words (plan_of bytes) ≡ o → Judges bytes words (checked bytes words)
   unfolding checked
   judged_at None e =
-      let lawful = none_lawful (λ d b. all.kept e d (between d).0 b) in
+      let lawful = none_lawful (λ d b. all.kept e d (ranked d).some b) in
       record { accepts = λ _. rw e; cases = rw e (sound lawful) }
   judged_at (Some x) e =
       let z = all.broken x e in
       record {
         accepts = λ h. absurd (lawful_none h z.0 z.2);
-        cases = rw e (record { finding = z.0; leads_to = z.1; found = z.2; first = λ d b. z.4 d (between d).0 b });
+        cases = rw e (record { finding = z.0; leads_to = z.1; found = z.2; first = λ d b. z.3 d (ranked d).some b });
       }
 
   pub judged : Judges bytes words (checked bytes words)

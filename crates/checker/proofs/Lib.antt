@@ -5,6 +5,7 @@ pub mod Forms
 pub mod Conflicts
 pub mod Ended
 pub mod Joined
+pub mod Chain
 pub mod Staged
 pub mod Leading
 pub mod Judged

@@ -5,7 +5,8 @@ use Rattle.std.proofs.lemmas.List.{get_or-replicate}
 use Rattle.words.specs.First.{any}
 use Rattle.words.proofs.First.{all_not, any_here, any_none, any_step, any_where}
 use Rattle.checker.specs.declared.marks.Marks.{Marks}
-use Rattle.checker.specs.Marks.{Shows, marked, named_through, names_in}
+use Rattle.checker.specs.Marks.{names_in}
+use Rattle.checker.specs.Scaffold.{Shows, marked, named_through}
 
 pub or_assoc : (a b c : Bool) → (a || (b || c)) ≡ ((a || b) || c)
 or_assoc true b c = refl

@@ -9,8 +9,8 @@ use Rattle.plan.specs.declared.refusal.Refusal.TheVariants.{FrameShared, FramesM
 use Rattle.plan.specs.Rules.{broken_unless}
 use Rattle.checker.specs.declared.claims.Claims.{Claims}
 use Rattle.checker.specs.declared.marks.Marks.{Marks}
-use Rattle.checker.specs.Marks.{Shows, marked}
-use Rattle.checker.specs.Sharing.{named_at, kernel_at, clash_claims, clash_at, apart_kept, share_refusal, Joined, missing_mark, missing_at, lent_kept, lent_refusal}
+use Rattle.checker.specs.Sharing.{named_at, kernel_at, clash_at, apart_kept, share_refusal, missing_at, lent_kept, lent_refusal}
+use Rattle.checker.specs.Scaffold.{Joined, Shows, clash_claims, marked, missing_mark}
 
 pub joined_none : (by : ℕ → ℕ → Bool) → Joined by (record { marks = replicate 256 false }) 0
 joined_none by f l = get_or-replicate 256 f false false l ∙ sym (any_none (by f))

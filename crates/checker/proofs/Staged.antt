@@ -1,16 +1,17 @@
--- Each rule is a stage of the chain of all rules.
-use Rattle.std.proofs.Common.{◌≡◌, ℕ, ◌<◌, ◌≤◌, ◌⊎◌, List, Some, None, Decides, Option, sym, refl, ap, ◌∙◌, subst, inl, inr, arith}
+-- Each rule is a stage of the chain of rules.
+use Rattle.std.proofs.Common.{◌≡◌, ℕ, ◌<◌, Bool, true, false, ◌⊎◌, List, length, Some, None, Decides, Option, sym, refl, ap, ◌∙◌, subst, inl, inr, arith}
 use Rattle.std.proofs.lemmas.Bool.{and_from, and_parts, both_ways, eq-eqb, eqb-true, leb-true, le-leb, lt-ltb, ltb-true, not-true, true≢false}
+use Rattle.std.proofs.lemmas.Bool.Decides.{nat_tests}
 use Rattle.words.specs.First.{any, first}
 use Rattle.words.proofs.First.{all_not, any_here, none_below}
 use Rattle.plan.specs.declared.model.Plan.{Plan}
 use Rattle.plan.specs.declared.refusal.Refusal.{Refusal}
-use Rattle.plan.specs.declared.refusal.Refusal.TheVariants.{Truncated, CountRange, SlotRule, ChannelRule, ChannelPage, RootRule, TableMalformed, FrameShared, StartMisaligned, BudgetRule, FramesMissing, Surplus}
-use Rattle.plan.specs.Format.{plan_of}
-use Rattle.plan.specs.Lawful.{Broken}
-use Rattle.plan.specs.Refused.{number_of, place_of, refusal}
-use Rattle.plan.proofs.Chain.{Stage, each, places, single}
-use Rattle.plan.proofs.Stages.{PlanStage, at_number}
+use Rattle.plan.specs.declared.refusal.Refusal.TheVariants.{Truncated, ChannelPage, TableMalformed, BudgetRule, FramesMissing, Surplus}
+use Rattle.plan.specs.Format.{plan_of, plan_size}
+use Rattle.plan.specs.Lawful.{ChannelFits, CountFits, SlotFits, StartFits}
+use Rattle.plan.specs.Refused.{count_at, number_of, place_of, refusal}
+use Rattle.plan.specs.Rules.{broken_unless, budget_fault, budget_kept, channel_fault, channel_kept, count_fault, count_kept, slot_fault, slot_kept, start_fault, start_kept, surplus, truncated}
+use Rattle.plan.proofs.Decides.{at_number, budget_decides, channel_decides, count_decides, count_place_at, count_place_below, slot_decides, start_decides}
 use Rattle.checker.specs.declared.fault.Fault.{Fault}
 use Rattle.checker.specs.declared.fault.Fault.TheVariants.{Broken as RuleBroken, NotLent}
 use Rattle.checker.specs.Faults.{refused_by}
@@ -21,88 +22,117 @@ use Rattle.checker.specs.Tables.{root_fault, table_refusal}
 use Rattle.checker.specs.Lawful.{Apart, Formed, PagesFit, PagesUnread, RootFits, TablesUnread, root}
 use Rattle.checker.specs.Found.{Finding, Found, found_at, refusal_of, rule_of}
 use Rattle.checker.specs.Found.Finding.{broken, pages_unread, tables_unread}
+use Rattle.checker.proofs.Chain.{Stage, each, places, single}
+use Rattle.checker.proofs.Conflicts.{apart_decides, lent_decides}
 use Rattle.checker.proofs.Forms.{formed_none, none_formed}
 use Rattle.checker.proofs.Forms as forms
 use Rattle.checker.proofs.Joined as joined
-use Rattle.checker.proofs.Conflicts.{apart_decides, lent_decides}
 
-abbrev pub Staged : List ℕ → List ℕ → Option Refusal → ℕ → Type 0
-Staged bytes words s n = Stage rule_of found_at refusal_of (Found bytes words) s n
+-- the findings of a rule
+one_kind : (n : ℕ) → (n ≡ 5 → ⊥) → (n ≡ 7 → ⊥) → (d : Finding) → rule_of d ≡ n → d ≡ broken (refusal n (found_at d))
+one_kind n not_5 not_7 (broken e) r = ap broken (at_number e n r)
+one_kind n not_5 not_7 (pages_unread k) r = absurd (not_5 (sym r))
+one_kind n not_5 not_7 (tables_unread k) r = absurd (not_7 (sym r))
 
--- the numbers of the rules that need no memory
-abbrev pub Own : ℕ → Type 0
-Own n = (n ≡ 5 → ⊥) × (n ≡ 6 → ⊥) × (n ≡ 7 → ⊥) × (n ≡ 8 → ⊥) × (n ≡ 11 → ⊥)
+kinds_5 : (d : Finding) → rule_of d ≡ 5 → (d ≡ broken (ChannelPage (found_at d))) ⊎ (d ≡ pages_unread (found_at d))
+kinds_5 (broken e) r = inl (ap broken (at_number e 5 r))
+kinds_5 (pages_unread k) r = inr refl
+kinds_5 (tables_unread k) r = absurd (omega (arith, r))
+
+kinds_7 : (d : Finding) → rule_of d ≡ 7 → (d ≡ broken (TableMalformed (found_at d))) ⊎ (d ≡ tables_unread (found_at d))
+kinds_7 (broken e) r = inl (ap broken (at_number e 7 r))
+kinds_7 (pages_unread k) r = absurd (omega (arith, r))
+kinds_7 (tables_unread k) r = inr refl
+
+refused_none : (e : Refusal) (o : Option Fault) → refused_by e o ≡ None → o ≡ None
+refused_none e None h = refl
+refused_none e (Some f) h = absurd (cc)
+
+refused_some : (e d : Refusal) (o : Option Fault) → refused_by e o ≡ Some d → ((o ≡ Some RuleBroken) × (e ≡ d)) ⊎ ((o ≡ Some NotLent) × (FramesMissing ≡ d))
+refused_some e d None h = absurd (cc)
+refused_some e d (Some RuleBroken) h = inl (refl, cc)
+refused_some e d (Some NotLent) h = inr (refl, cc)
+
+pub root_decides : (words : List ℕ) (p : Plan) (k : ℕ) → Decides (root_kept words p k) (RootFits words p k)
+root_decides words p k = (
+  (λ e.
+      let x = and_parts _ _ e in
+      let y = and_parts _ _ x.1 in
+      record {
+        few = leb-true _ 256 x.0;
+        below = ltb-true (root p k) 256 y.0;
+        own = λ j l s. true≢false (sym (any_here (same_root p k) k j l (eq-eqb (root p j) (root p k) s)) ∙ not-true (any (same_root p k) k) y.1);
+      }),
+  λ f. and_from _ _ (le-leb _ 256 f.few) (and_from _ _ (lt-ltb (root p k) 256 f.below)
+      (rw (all_not (same_root p k) k (λ j l e. f.own j l (eqb-true (root p j) (root p k) e))) refl)),
+)
 
 module _ (bytes words : List ℕ) where
-  own_found : (n : ℕ) → Own n → (g : Finding) → rule_of g ≡ n → Found bytes words g → (e : Refusal) × (g ≡ broken e) × Broken bytes e
+  abbrev pub Staged : Option Refusal → ℕ → Type 0
+  Staged s n = Stage rule_of found_at refusal_of (Found bytes words) s n
+
+  -- a rule that is broken or not, as a whole
+  module _ (n : ℕ) (not_5 : n ≡ 5 → ⊥) (not_7 : n ≡ 7 → ⊥) where
+    whole : (kept : Bool) (e : Refusal) → number_of e ≡ n →
+        ((at : ℕ) → Found bytes words (broken (refusal n at)) → refusal n at ≡ e) →
+        (kept ≡ true → Found bytes words (broken e) → ⊥) → (kept ≡ false → Found bytes words (broken e)) → Staged (broken_unless kept e) n
+    whole kept e num only no_fault faulty = single rule_of found_at refusal_of (Found bytes words) n kept (broken e) num
+        (λ d r b. let is = one_kind n not_5 not_7 d r in is ∙ ap broken (only (found_at d) (subst (Found bytes words) is b)))
+        no_fault faulty
+
+    -- or at each of many places
+    at_each : (many : ℕ) (test : ℕ → Bool) (Fits : ℕ → Type 0) →
+        ((k : ℕ) → number_of (refusal n k) ≡ n) → ((k : ℕ) → k < many → place_of (refusal n k) ≡ k) →
+        ((k : ℕ) → k < many → Decides (test k) (Fits k)) →
+        ((k : ℕ) → k < many → (Fits k → ⊥) → Found bytes words (broken (refusal n k))) →
+        ((k : ℕ) → Found bytes words (broken (refusal n k)) → (place_of (refusal n k) < many) × (Fits k → ⊥)) →
+        Staged (first (λ k. broken_unless (test k) (refusal n k)) many) n
+    at_each many test Fits num at decides faulty fault_of = each rule_of found_at refusal_of (Found bytes words) n many (λ k. broken (refusal n k)) test Fits
+        num at decides faulty
+        (λ d r b. let is = one_kind n not_5 not_7 d r in
+        let z = fault_of (found_at d) (subst (Found bytes words) is b) in
+        (subst (λ x. x < many) (sym (ap found_at is)) z.0, z.1))
+
+  pub truncated_stage : Staged (truncated bytes (plan_of bytes)) 1
   unfolding Found
-  own_found n own (broken (Truncated at)) r b = (Truncated at, refl, b)
-  own_found n own (broken (CountRange c)) r b = (CountRange c, refl, b)
-  own_found n own (broken (SlotRule k)) r b = (SlotRule k, refl, b)
-  own_found n own (broken (ChannelRule k)) r b = (ChannelRule k, refl, b)
-  own_found n own (broken (ChannelPage k)) r b = absurd (own.0 (sym r))
-  own_found n own (broken (RootRule k)) r b = absurd (own.1 (sym r))
-  own_found n own (broken (TableMalformed k)) r b = absurd (own.2 (sym r))
-  own_found n own (broken (FrameShared k)) r b = absurd (own.3 (sym r))
-  own_found n own (broken (StartMisaligned k)) r b = (StartMisaligned k, refl, b)
-  own_found n own (broken BudgetRule) r b = (BudgetRule, refl, b)
-  own_found n own (broken FramesMissing) r b = absurd (own.4 (sym r))
-  own_found n own (broken (Surplus at)) r b = (Surplus at, refl, b)
-  own_found n own (pages_unread k) r b = absurd (own.0 (sym r))
-  own_found n own (tables_unread k) r b = absurd (own.2 (sym r))
+  truncated_stage = whole 1 (λ e. omega arith) (λ e. omega arith) _ (Truncated (length bytes)) refl
+      (λ at b. ap Truncated b.1) (λ e b. grind (arith, nat_tests)) (λ e. (grind (arith, nat_tests), refl))
 
-  pub found_own : (e : Refusal) → Broken bytes e → Found bytes words (broken e)
-  unfolding Found Broken
-  found_own (Truncated at) b = b
-  found_own (CountRange c) b = b
-  found_own (SlotRule k) b = b
-  found_own (ChannelRule k) b = b
-  found_own (ChannelPage k) b = absurd b
-  found_own (RootRule k) b = absurd b
-  found_own (TableMalformed k) b = absurd b
-  found_own (FrameShared k) b = absurd b
-  found_own (StartMisaligned k) b = b
-  found_own BudgetRule b = b
-  found_own FramesMissing b = absurd b
-  found_own (Surplus at) b = b
+  pub counts_stage : Staged (first (count_fault (plan_of bytes).counts) 3) 2
+  unfolding Found
+  counts_stage = at_each 2 (λ e. omega arith) (λ e. omega arith) 3 (λ k. count_kept (plan_of bytes).counts (count_at k)) (λ k. CountFits (plan_of bytes) (count_at k))
+      (λ k. refl) count_place_at (λ k l. count_decides (plan_of bytes) (count_at k)) (λ k l f. f) (λ k b. (count_place_below (count_at k), b))
 
-  -- a rule of the plan's own
-  pub lifted : (s : Option Refusal) (n : ℕ) → Own n → PlanStage bytes s n → Staged bytes words s n
-  lifted s n own here = record {
-    kept = λ h g r b. let z = own_found n own g r b in here.kept h z.0 (sym (ap rule_of z.1) ∙ r) z.2;
-    broken = λ e h. let q = here.broken e h in (
-      broken q.0,
-      q.1,
-      found_own q.0 q.2,
-      q.3,
-      λ g r b. let z = own_found n own g r b in subst (λ x. place_of q.0 ≤ found_at x) (sym z.1) (q.4 z.0 (sym (ap rule_of z.1) ∙ r) z.2),
-    );
-  }
+  pub slots_stage : Staged (first (slot_fault (plan_of bytes)) (plan_of bytes).counts.slots) 3
+  unfolding Found
+  slots_stage = at_each 3 (λ e. omega arith) (λ e. omega arith) (plan_of bytes).counts.slots (slot_kept (plan_of bytes)) (SlotFits (plan_of bytes))
+      (λ k. refl) (λ k l. refl) (λ k l. slot_decides (plan_of bytes) k) (λ k l f. (l, f)) (λ k b. b)
 
-  -- the findings of a rule
-  one_kind : (n : ℕ) → (n ≡ 5 → ⊥) → (n ≡ 7 → ⊥) → (d : Finding) → rule_of d ≡ n → d ≡ broken (refusal n (found_at d))
-  one_kind n not_5 not_7 (broken e) r = ap broken (at_number e n r)
-  one_kind n not_5 not_7 (pages_unread k) r = absurd (not_5 (sym r))
-  one_kind n not_5 not_7 (tables_unread k) r = absurd (not_7 (sym r))
+  pub channels_stage : Staged (first (channel_fault (plan_of bytes)) (plan_of bytes).counts.channels) 4
+  unfolding Found
+  channels_stage = at_each 4 (λ e. omega arith) (λ e. omega arith) (plan_of bytes).counts.channels (channel_kept (plan_of bytes)) (ChannelFits (plan_of bytes))
+      (λ k. refl) (λ k l. refl) (λ k l. channel_decides (plan_of bytes) k) (λ k l f. (l, f)) (λ k b. b)
 
-  kinds_5 : (d : Finding) → rule_of d ≡ 5 → (d ≡ broken (ChannelPage (found_at d))) ⊎ (d ≡ pages_unread (found_at d))
-  kinds_5 (broken e) r = inl (ap broken (at_number e 5 r))
-  kinds_5 (pages_unread k) r = inr refl
-  kinds_5 (tables_unread k) r = absurd (omega (arith, r))
+  pub roots_stage : Staged (first (root_refusal words (plan_of bytes)) (plan_of bytes).counts.partitions) 6
+  unfolding Found
+  roots_stage = at_each 6 (λ e. omega arith) (λ e. omega arith) (plan_of bytes).counts.partitions (root_kept words (plan_of bytes)) (RootFits words (plan_of bytes))
+      (λ k. refl) (λ k l. refl) (λ k l. root_decides words (plan_of bytes) k) (λ k l f. (l, f)) (λ k b. b)
 
-  kinds_7 : (d : Finding) → rule_of d ≡ 7 → (d ≡ broken (TableMalformed (found_at d))) ⊎ (d ≡ tables_unread (found_at d))
-  kinds_7 (broken e) r = inl (ap broken (at_number e 7 r))
-  kinds_7 (pages_unread k) r = absurd (omega (arith, r))
-  kinds_7 (tables_unread k) r = inr refl
+  pub starts_stage : Staged (first (start_fault (plan_of bytes)) (plan_of bytes).counts.partitions) 9
+  unfolding Found
+  starts_stage = at_each 9 (λ e. omega arith) (λ e. omega arith) (plan_of bytes).counts.partitions (start_kept (plan_of bytes)) (StartFits (plan_of bytes))
+      (λ k. refl) (λ k l. refl) (λ k l. start_decides (plan_of bytes) k) (λ k l f. (l, f)) (λ k b. b)
 
-  refused_none : (e : Refusal) (o : Option Fault) → refused_by e o ≡ None → o ≡ None
-  refused_none e None h = refl
-  refused_none e (Some f) h = absurd (cc)
+  pub budget_stage : Staged (budget_fault (plan_of bytes)) 10
+  unfolding Found
+  budget_stage = whole 10 (λ e. omega arith) (λ e. omega arith) (budget_kept (plan_of bytes)) BudgetRule refl (λ at b. refl)
+      (λ e b. b ((budget_decides (plan_of bytes)).0 e))
+      (λ e f. both_ways (budget_kept (plan_of bytes)) e ((budget_decides (plan_of bytes)).1 f))
 
-  refused_some : (e d : Refusal) (o : Option Fault) → refused_by e o ≡ Some d → ((o ≡ Some RuleBroken) × (e ≡ d)) ⊎ ((o ≡ Some NotLent) × (FramesMissing ≡ d))
-  refused_some e d None h = absurd (cc)
-  refused_some e d (Some RuleBroken) h = inl (refl, cc)
-  refused_some e d (Some NotLent) h = inr (refl, cc)
+  pub surplus_stage : Staged (surplus bytes (plan_of bytes)) 12
+  unfolding Found
+  surplus_stage = whole 12 (λ e. omega arith) (λ e. omega arith) _ (Surplus (plan_size (plan_of bytes).counts)) refl
+      (λ at b. ap Surplus b.1) (λ e b. grind (arith, nat_tests)) (λ e. (grind (arith, nat_tests), refl))
 
   -- a rule whose check at a place may need a frame that is not lent
   module _ (n many : ℕ) (fault : ℕ → Option Fault) (E : ℕ → Refusal) (U : ℕ → Finding) (Fit Unread : ℕ → Type 0)
@@ -135,7 +165,7 @@ module _ (bytes words : List ℕ) where
       | inr g ↦ (U k, u_says k ∙ g.1, found_u k l (unlent_unread k g.0), u_rule k, u_place k)
     ]
 
-    faults : Staged bytes words (first (λ k. refused_by (E k) (fault k)) many) n
+    faults : Staged (first (λ k. refused_by (E k) (fault k)) many) n
     faults = places rule_of found_at refusal_of (Found bytes words) n many (λ k. refused_by (E k) (fault k))
         (λ k l h d r s b. at_none k (refused_none (E k) (fault k) h) d r s b)
         at_some
@@ -144,14 +174,14 @@ module _ (bytes words : List ℕ) where
           | inr is ↦ (u_found (found_at d) (subst (Found bytes words) is b)).0
         ])
 
-  pub pages_stage : Staged bytes words (first (ends_refusal words (plan_of bytes)) (plan_of bytes).counts.channels) 5
+  pub pages_stage : Staged (first (ends_refusal words (plan_of bytes)) (plan_of bytes).counts.channels) 5
   unfolding Found
   pages_stage = faults 5 (plan_of bytes).counts.channels (ends_fault words (plan_of bytes)) ChannelPage pages_unread (PagesFit words (plan_of bytes)) (PagesUnread words (plan_of bytes))
       kinds_5 (λ k. refl) (λ k. refl) (λ k. refl) (λ k. refl) (λ k. refl)
       (λ k l u f. (l, u, f)) (λ k b. b) (λ k l u. (l, u)) (λ k b. b)
       (joined.none_fit words (plan_of bytes)) (joined.fit_none words (plan_of bytes)) (joined.unlent_unread words (plan_of bytes)) (joined.unread_unlent words (plan_of bytes))
 
-  pub tables_stage : Staged bytes words (first (table_refusal words (plan_of bytes)) (plan_of bytes).counts.partitions) 7
+  pub tables_stage : Staged (first (table_refusal words (plan_of bytes)) (plan_of bytes).counts.partitions) 7
   unfolding Found
   tables_stage = faults 7 (plan_of bytes).counts.partitions (λ k. root_fault words (root (plan_of bytes) k)) TableMalformed tables_unread
       (λ k. Formed words (root (plan_of bytes) k)) (λ k. TablesUnread words (root (plan_of bytes) k))
@@ -165,38 +195,16 @@ module _ (bytes words : List ℕ) where
       none_formed words (root (plan_of bytes) k)
       (refused_none (TableMalformed k) (root_fault words (root (plan_of bytes) k)) (none_below (table_refusal words (plan_of bytes)) (plan_of bytes).counts.partitions e k l))
 
-  pub root_decides : (p : Plan) (k : ℕ) → Decides (root_kept words p k) (RootFits words p k)
-  root_decides p k = (
-    (λ e.
-        let x = and_parts _ _ e in
-        let y = and_parts _ _ x.1 in
-        record {
-          few = leb-true _ 256 x.0;
-          below = ltb-true (root p k) 256 y.0;
-          own = λ j l s. true≢false (sym (any_here (same_root p k) k j l (eq-eqb (root p j) (root p k) s)) ∙ not-true (any (same_root p k) k) y.1);
-        }),
-    λ f. and_from _ _ (le-leb _ 256 f.few) (and_from _ _ (lt-ltb (root p k) 256 f.below)
-        (rw (all_not (same_root p k) k (λ j l e. f.own j l (eqb-true (root p j) (root p k) e))) refl)),
-  )
-
-  pub roots_stage : Staged bytes words (first (root_refusal words (plan_of bytes)) (plan_of bytes).counts.partitions) 6
-  unfolding Found
-  roots_stage = each rule_of found_at refusal_of (Found bytes words) 6 (plan_of bytes).counts.partitions (λ k. broken (RootRule k)) (root_kept words (plan_of bytes)) (RootFits words (plan_of bytes))
-      (λ k. refl) (λ k l. refl) (λ k l. root_decides (plan_of bytes) k)
-      (λ k l f. (l, f)) (λ d r b. subst (Found bytes words) (one_kind 6 (λ e. omega arith) (λ e. omega arith) d r) b)
-
   module _ (ok : (k : ℕ) → k < (plan_of bytes).counts.partitions → Formed words (root (plan_of bytes) k)) where
-    pub sharing_stage : Staged bytes words (first (share_refusal words (plan_of bytes)) (plan_of bytes).counts.partitions) 8
+    pub sharing_stage : Staged (first (share_refusal words (plan_of bytes)) (plan_of bytes).counts.partitions) 8
     unfolding Found
-    sharing_stage = each rule_of found_at refusal_of (Found bytes words) 8 (plan_of bytes).counts.partitions (λ k. broken (FrameShared k)) (apart_kept words (plan_of bytes)) (Apart words (plan_of bytes))
-        (λ k. refl) (λ k l. refl) (λ k l. apart_decides words (plan_of bytes) k (λ q h. ok q (omega arith)))
-        (λ k l f. (l, f)) (λ d r b. subst (Found bytes words) (one_kind 8 (λ e. omega arith) (λ e. omega arith) d r) b)
+    sharing_stage = at_each 8 (λ e. omega arith) (λ e. omega arith) (plan_of bytes).counts.partitions (apart_kept words (plan_of bytes)) (Apart words (plan_of bytes))
+        (λ k. refl) (λ k l. refl) (λ k l. apart_decides words (plan_of bytes) k (λ q h. ok q (omega arith))) (λ k l f. (l, f)) (λ k b. b)
 
-    pub lent_stage : Staged bytes words (lent_refusal words (plan_of bytes)) 11
+    pub lent_stage : Staged (lent_refusal words (plan_of bytes)) 11
     unfolding Found
     lent_stage =
         let decides = lent_decides words (plan_of bytes) ok in
-        single rule_of found_at refusal_of (Found bytes words) 11 (lent_kept words (plan_of bytes)) (broken FramesMissing) refl
-        (λ d r b. one_kind 11 (λ e. omega arith) (λ e. omega arith) d r)
+        whole 11 (λ e. omega arith) (λ e. omega arith) (lent_kept words (plan_of bytes)) FramesMissing refl (λ at b. refl)
         (λ e b. b (decides.0 e))
         (λ e f. both_ways (lent_kept words (plan_of bytes)) e (decides.1 f))

@@ -5,14 +5,15 @@ use Rattle.words.specs.Bytes.{byte}
 use Rattle.words.specs.First.{first, unless}
 use Rattle.plan.specs.declared.model.Plan.{Plan}
 use Rattle.plan.specs.declared.refusal.Refusal.{Refusal}
-use Rattle.plan.specs.Format.{plan_of, rows}
-use Rattle.plan.specs.Rules.{budget_fault, channel_fault, count_fault, longest, slot_fault, start_fault, surplus, truncated}
+use Rattle.plan.specs.Format.{longest, plan_of, rows}
+use Rattle.plan.specs.Rules.{budget_fault, channel_fault, count_fault, slot_fault, start_fault, surplus, truncated}
 use Rattle.checker.specs.declared.Accepted.{Accepted}
 use Rattle.checker.specs.Pages.{ends_or_none, no_ends, ends_refusal}
 use Rattle.checker.specs.Roots.{root_refusal}
 use Rattle.checker.specs.Sharing.{lent_refusal, share_refusal}
 use Rattle.checker.specs.Tables.{table_refusal}
 
+-- the rules in the order in which they are asked
 unfoldable pub first_refusal : List ℕ → List ℕ → Plan → Option Refusal
 first_refusal bytes words p =
     option_or (truncated bytes p)

@@ -1,15 +1,10 @@
 -- What stops the check of a rule, and the refusal that it leads to.
-use Rattle.std.specs.Prelude.{ℕ, ⊤, cond, List, Some, None, Ok, Err, Option, Result, nat_lt}
+use Rattle.std.specs.Prelude.{ℕ, cond, List, Some, None, Option, nat_lt}
 use Rattle.words.specs.Frames.{lent}
 use Rattle.plan.specs.declared.refusal.Refusal.{Refusal}
 use Rattle.plan.specs.declared.refusal.Refusal.TheVariants.{FramesMissing}
 use Rattle.checker.specs.declared.fault.Fault.{Fault}
 use Rattle.checker.specs.declared.fault.Fault.TheVariants.{Broken, NotLent}
-
--- an answer without its value
-abbrev pub cleared : {X E : Type 0} → Result X E → Result ⊤ E
-cleared (Ok x) = Ok tt
-cleared (Err e) = Err e
 
 -- a frame from the 256th on breaks a rule, and one below that is not lent cannot be read
 abbrev pub frame_fault : List ℕ → ℕ → Option Fault

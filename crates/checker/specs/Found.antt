@@ -1,5 +1,5 @@
 -- What the checker can find, the order of findings, and what its verdict has to be.
-use Rattle.std.specs.Prelude.{◌≡◌, ℕ, ◌<◌, true, false, List, Ok, Result, MatchResult}
+use Rattle.std.specs.Prelude.{◌≡◌, ℕ, ◌<◌, ◌≤◌, true, false, ◌⊎◌, List, length, Ok, Result, MatchResult}
 use Rattle.paging.specs.declared.leaf.Leaf.{Leaf}
 use Rattle.paging.specs.Mapping.{Maps}
 use Rattle.paging.specs.Tables.{KernelFrame, Names}
@@ -7,10 +7,9 @@ use Rattle.plan.specs.declared.model.Endpoint.{Endpoint}
 use Rattle.plan.specs.declared.model.Plan.{Plan}
 use Rattle.plan.specs.declared.refusal.Refusal.{Refusal}
 use Rattle.plan.specs.declared.refusal.Refusal.TheVariants.{Truncated, CountRange, SlotRule, ChannelRule, ChannelPage, RootRule, TableMalformed, FrameShared, StartMisaligned, BudgetRule, FramesMissing, Surplus}
-use Rattle.plan.specs.Format.{plan_of}
-use Rattle.plan.specs.Lawful.{Broken, Earlier}
-use Rattle.plan.specs.Lawful.{Lawful as PlanLawful}
-use Rattle.plan.specs.Refused.{number_of, place_of}
+use Rattle.plan.specs.Format.{plan_of, plan_size}
+use Rattle.plan.specs.Lawful.{BudgetFits, ChannelFits, CountFits, PlanLawful, SlotFits, StartFits}
+use Rattle.plan.specs.Refused.{number_of, place_of, rank}
 use Rattle.plan.specs.Rules.{channel}
 use Rattle.checker.specs.declared.Accepted.{Accepted}
 use Rattle.checker.specs.declared.pages.Ends.{Ends}
@@ -24,11 +23,14 @@ pub data Finding : Type 0 where
   pages_unread : ℕ → Finding
   tables_unread : ℕ → Finding
 
--- the rule in whose turn it is found, and the place
+-- the number of the rule in whose turn it is found, its turn, and the place
 abbrev pub rule_of : Finding → ℕ
 rule_of (broken e) = number_of e
 rule_of (pages_unread k) = 5
 rule_of (tables_unread k) = 7
+
+abbrev pub turn_of : Finding → ℕ
+turn_of f = rank (rule_of f)
 
 abbrev pub found_at : Finding → ℕ
 found_at (broken e) = place_of e
@@ -43,28 +45,32 @@ refusal_of (tables_unread k) = FramesMissing
 
 -- the plan and the lent words have what a finding says
 unfoldable pub Found : List ℕ → List ℕ → Finding → Type 0
-Found bytes words (broken (Truncated at)) = Broken bytes (Truncated at)
-Found bytes words (broken (CountRange c)) = Broken bytes (CountRange c)
-Found bytes words (broken (SlotRule k)) = Broken bytes (SlotRule k)
-Found bytes words (broken (ChannelRule k)) = Broken bytes (ChannelRule k)
+Found bytes words (broken (Truncated at)) = (length bytes < plan_size (plan_of bytes).counts) × (at ≡ length bytes)
+Found bytes words (broken (CountRange c)) = CountFits (plan_of bytes) c → ⊥
+Found bytes words (broken (SlotRule k)) = (k < (plan_of bytes).counts.slots) × (SlotFits (plan_of bytes) k → ⊥)
+Found bytes words (broken (ChannelRule k)) = (k < (plan_of bytes).counts.channels) × (ChannelFits (plan_of bytes) k → ⊥)
 Found bytes words (broken (ChannelPage k)) = (k < (plan_of bytes).counts.channels) × (PagesUnread words (plan_of bytes) k → ⊥) × (PagesFit words (plan_of bytes) k → ⊥)
 Found bytes words (broken (RootRule k)) = (k < (plan_of bytes).counts.partitions) × (RootFits words (plan_of bytes) k → ⊥)
 Found bytes words (broken (TableMalformed k)) =
     (k < (plan_of bytes).counts.partitions) × (TablesUnread words (root (plan_of bytes) k) → ⊥) × (Formed words (root (plan_of bytes) k) → ⊥)
 Found bytes words (broken (FrameShared k)) = (k < (plan_of bytes).counts.partitions) × (Apart words (plan_of bytes) k → ⊥)
-Found bytes words (broken (StartMisaligned k)) = Broken bytes (StartMisaligned k)
-Found bytes words (broken BudgetRule) = Broken bytes BudgetRule
+Found bytes words (broken (StartMisaligned k)) = (k < (plan_of bytes).counts.partitions) × (StartFits (plan_of bytes) k → ⊥)
+Found bytes words (broken BudgetRule) = BudgetFits (plan_of bytes) → ⊥
 Found bytes words (broken FramesMissing) = AllLent words (plan_of bytes) → ⊥
-Found bytes words (broken (Surplus at)) = Broken bytes (Surplus at)
+Found bytes words (broken (Surplus at)) = (plan_size (plan_of bytes).counts < length bytes) × (at ≡ plan_size (plan_of bytes).counts)
 Found bytes words (pages_unread k) = (k < (plan_of bytes).counts.channels) × PagesUnread words (plan_of bytes) k
 Found bytes words (tables_unread k) = (k < (plan_of bytes).counts.partitions) × TablesUnread words (root (plan_of bytes) k)
 
--- of all that is found, the first: by its rule, and within a rule by its place
+-- one finding comes before another: by its turn, and within a turn by its place
+abbrev pub Earlier : {F : Type 0} → (F → ℕ) → (F → ℕ) → F → F → Type 0
+Earlier turn place e d = (turn e < turn d) ⊎ ((turn e ≡ turn d) × (place e ≤ place d))
+
+-- of all that is found, the first
 pub record FirstFound (bytes words : List ℕ) (e : Refusal) : Type 0 where
   pub finding : Finding
   pub leads_to : refusal_of finding ≡ e
   pub found : Found bytes words finding
-  pub first : (d : Finding) → Found bytes words d → Earlier rule_of found_at finding d
+  pub first : (d : Finding) → Found bytes words d → Earlier turn_of found_at finding d
 
 -- one refusal at most is the first
 abbrev pub OneFirst : Type 0

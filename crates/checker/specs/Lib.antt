@@ -8,3 +8,4 @@ pub mod Pages
 pub mod Checked
 pub mod Lawful
 pub mod Found
+pub mod Scaffold

@@ -1,16 +1,8 @@
 -- Which frames are kernel frames of a root, and which its tables name, as tests.
-use Rattle.std.specs.Prelude.{◌≡◌, ℕ, ◌<◌, Bool, false, ◌&&◌, ◌||◌, List, ◌==◌, slice_index_or}
+use Rattle.std.specs.Prelude.{ℕ, Bool, ◌&&◌, ◌||◌, List, ◌==◌}
 use Rattle.words.specs.First.{any}
 use Rattle.words.specs.Frames.{word}
 use Rattle.paging.specs.Entries.{frame_of, is_pointer, is_valid}
-use Rattle.checker.specs.declared.marks.Marks.{Marks}
-
-abbrev pub marked : Marks → ℕ → Bool
-marked m frame = slice_index_or m.marks frame false
-
--- the marked frames are those that pass a test
-abbrev pub Shows : Marks → (ℕ → Bool) → Type 0
-Shows m test = (f : ℕ) → f < 256 → marked m f ≡ test f
 
 -- entry k of a table passes a test and has the frame
 abbrev pub passes : (ℕ → Bool) → List ℕ → ℕ → ℕ → ℕ → Bool
@@ -30,10 +22,6 @@ named_entry words table = passes is_valid words table
 
 unfoldable pub names_in : List ℕ → ℕ → ℕ → Bool
 names_in words table frame = any (named_entry words table frame) 1024
-
--- a marked table names the frame
-abbrev pub named_through : List ℕ → Marks → ℕ → ℕ → Bool
-named_through words tables frame table = marked tables table && names_in words table frame
 
 abbrev pub named_by : List ℕ → ℕ → ℕ → ℕ → Bool
 named_by words root frame table = pointed words root table && names_in words table frame

@@ -1,5 +1,5 @@
 -- The rule on the form of page tables as tests: entries are read from the first on, and the first at fault decides.
-use Rattle.std.specs.Prelude.{◌≡◌, ℕ, ◌<◌, Bool, true, cond, not, ◌&&◌, List, Some, None, Option, nat_lt}
+use Rattle.std.specs.Prelude.{ℕ, Bool, cond, not, ◌&&◌, List, Some, None, Option, nat_lt}
 use Rattle.std.specs.Option.{option_or}
 use Rattle.words.specs.First.{any, first}
 use Rattle.words.specs.Frames.{lent, word}
@@ -8,12 +8,9 @@ use Rattle.plan.specs.declared.model.Plan.{Plan}
 use Rattle.plan.specs.declared.refusal.Refusal.{Refusal}
 use Rattle.plan.specs.declared.refusal.Refusal.TheVariants.{TableMalformed}
 use Rattle.plan.specs.Rules.{partition}
-use Rattle.checker.specs.declared.claims.Claims.{Claims}
 use Rattle.checker.specs.declared.fault.Fault.{Fault}
 use Rattle.checker.specs.declared.fault.Fault.TheVariants.{Broken, NotLent}
-use Rattle.checker.specs.declared.marks.Marks.{Marks}
 use Rattle.checker.specs.Faults.{frame_fault, refused_by}
-use Rattle.checker.specs.Marks.{Shows, kernel_test, marked, named_through, names}
 
 -- an entry of a table that is valid and no leaf of one of the 256 frames
 abbrev pub bad_leaf : ℕ → Bool
@@ -40,15 +37,3 @@ root_fault words root = cond (lent words root) (first (entry_fault_at words root
 
 abbrev pub table_refusal : List ℕ → Plan → ℕ → Option Refusal
 table_refusal words p k = refused_by (TableMalformed k) (root_fault words (partition p k).root)
-
--- what is marked is a table without fault
-abbrev pub Known : List ℕ → Marks → Type 0
-Known words marks = (f : ℕ) → f < 256 → marked marks f ≡ true → table_fault words f ≡ None
-
--- while a root is read: the tables so far are without fault, and what they name is marked
-abbrev pub Gathered : List ℕ → Claims → Type 0
-Gathered words claims = Known words claims.kernel × Shows claims.named (λ f. any (named_through words claims.kernel f) 256)
-
--- what the partition under a root claims
-abbrev pub Claimed : List ℕ → ℕ → Claims → Type 0
-Claimed words root claims = Shows claims.named (names words root) × Shows claims.kernel (kernel_test words root)

@@ -1,8 +1,8 @@
 // What partitions claim: the frames that their tables name, and their kernel frames, which are roots and tables.
 ghost use Rattle.std.specs.Prelude.{◌≡◌, ◌||◌};
 ghost use Rattle.words.specs.First.{any};
-ghost use Rattle.checker.specs.Marks.{Shows, marked};
-ghost use Rattle.checker.specs.Sharing.{clash, clash_claims};
+ghost use Rattle.checker.specs.Sharing.{clash};
+ghost use Rattle.checker.specs.Scaffold.{Shows, clash_claims, marked};
 
 use crate::marks::Marks;
 use paging::walk::MOST_FRAMES;

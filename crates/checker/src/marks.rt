@@ -1,7 +1,7 @@
 // Marks on the 256 frames.
 ghost use Rattle.std.specs.Prelude.{◌≡◌, ◌<◌, ◌&&◌, ◌||◌, true, ◌==◌};
 ghost use Rattle.paging.specs.Entries.{frame_of, is_valid};
-ghost use Rattle.checker.specs.Marks.{Shows, marked};
+ghost use Rattle.checker.specs.Scaffold.{Shows, marked};
 
 use paging::entry::Entry;
 use paging::walk::MOST_FRAMES;

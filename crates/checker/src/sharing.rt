@@ -4,9 +4,9 @@ ghost use Rattle.std.specs.Prelude.{◌≡◌, not, IfOk};
 ghost use Rattle.words.specs.First.{any, first, unless};
 ghost use Rattle.plan.specs.Rules.{broken_unless};
 ghost use Rattle.plan.specs.declared.refusal.Refusal.TheVariants.{FrameShared};
-ghost use Rattle.checker.specs.Faults.{cleared};
-ghost use Rattle.checker.specs.Sharing.{Gathers, Joined, clash_claims, lent_refusal, missing_mark, named_at};
+ghost use Rattle.checker.specs.Sharing.{lent_refusal, named_at};
 ghost use Rattle.checker.specs.Tables.{table_refusal};
+ghost use Rattle.checker.specs.Scaffold.{Gathers, Joined, clash_claims, cleared, missing_mark};
 
 use crate::claims::Claims;
 use crate::marks::Marks;

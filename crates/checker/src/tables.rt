@@ -3,10 +3,10 @@
 // Words and plan, or words and root, are two parameters, as lib.rt says.
 ghost use Rattle.std.specs.Prelude.{◌≡◌, ◌||◌, ◌==◌, false, Ok, IfOk};
 ghost use Rattle.words.specs.First.{first, unless};
-ghost use Rattle.checker.specs.Faults.{cleared};
 ghost use Rattle.checker.specs.Lawful.{root};
-ghost use Rattle.checker.specs.Marks.{Shows, marked, names_in, points};
-ghost use Rattle.checker.specs.Tables.{Claimed, Gathered, bad_leaf, bad_table, entry_fault, entry_fault_at, root_fault, table_fault, table_refusal};
+ghost use Rattle.checker.specs.Marks.{names_in, points};
+ghost use Rattle.checker.specs.Tables.{bad_leaf, bad_table, entry_fault, entry_fault_at, root_fault, table_fault, table_refusal};
+ghost use Rattle.checker.specs.Scaffold.{Claimed, Gathered, Shows, cleared, marked};
 
 use crate::claims::Claims;
 use crate::fault::{Fault, check_frame};

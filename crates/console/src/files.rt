@@ -2,7 +2,7 @@
 ghost use Rattle.std.specs.Prelude.{◌≤◌, ◌⊎◌, IfErr, IfOk, vec_len};
 ghost use Rattle.console.specs.Words.{IsUnreadable};
 ghost use Rattle.image.specs.Frames.{longest as longest_image};
-ghost use Rattle.plan.specs.Rules.{longest as longest_plan};
+ghost use Rattle.plan.specs.Format.{longest as longest_plan};
 
 use crate::problem::Problem;
 use std::fs::File;

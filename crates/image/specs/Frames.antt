@@ -54,7 +54,7 @@ front_size image = image_size (counted image) + 1
 
 -- no count asks for a longer one: the image of 65,535 frames, and a byte more
 abbrev pub longest : ℕ
-longest = 268431363
+longest = image_size 65535 + 1
 
 -- the verdict on a file, and the words that it lends, are those of so many of its bytes
 pub record FrontTells (image : List ℕ) (n : ℕ) : Type 0 where

@@ -32,7 +32,7 @@ pub fn front_size(image: &[u8]) -> usize
 }
 
 // How many frames the image lends: the whole ones that it has, at most as many as it counts.
-pub fn lent(image: &[u8]) -> usize
+fn lent(image: &[u8]) -> usize
     ensures { result ≡ lent_frames image.now }
 {
     let whole = image.len().saturating_sub(HEADER) / FRAME;

@@ -1,87 +1,109 @@
--- Laws of the steps of a slot: enough of them lead to its end, and a stopped program waits.
-use Rattle.std.proofs.Common.{◌≡◌, ℕ, zero, suc, ◌+◌, ◌-◌, ◌%◌, ◌^◌, ◌<◌, ◌≤◌, max, true, false, ltb, ◌⊎◌, List, sym, refl, ap, ◌∙◌, inl, inr, add-zero, mod-eq_of_lt, arith}
+-- Laws of the steps until a reading of the clock: enough of them lead there, and a stopped program waits.
+use Rattle.std.proofs.Common.{◌≡◌, ℕ, zero, suc, ◌+◌, ◌-◌, ◌%◌, ◌^◌, ◌<◌, ◌≤◌, max, false, ltb, ◌⊎◌, List, sym, refl, ap, ◌∙◌, inl, inr, add-zero, mod-eq_of_lt, arith}
 use Rattle.std.proofs.lemmas.Bool.{cases_lt, cond-true, cond-false, le-ltb, lt-ltb, true≢false}
-use Rattle.tables.specs.declared.Tables.{Tables}
-use Rattle.hart.specs.declared.context.Context.{Context}
+use Rattle.costs.specs.Costs.{worst_instruction}
 use Rattle.hart.specs.declared.context.State.{State}
 use Rattle.hart.specs.declared.context.State.TheVariants.{Ready, Stopped}
-use Rattle.hart.specs.Core.{later, ran, step_of, stepped, stepped_by}
-use Rattle.hart.proofs.Stepping.{steps}
+use Rattle.tables.specs.declared.Tables.{Tables}
+use Rattle.hart.specs.declared.context.Context.{Context}
+use Rattle.hart.specs.Core.{ran, step_of, stepped, stepped_by}
 use Rattle.hart.specs.Execution.{is_ready}
-use Rattle.hart.specs.declared.step.Core.{Core}
-use Rattle.kernel.specs.Inside.{Inside, inside, next, until}
+use Rattle.hart.proofs.Stepping.{steps}
+use Rattle.kernel.specs.Shim.{Moment, next, until}
 
--- below its limit the clock does not wrap
-pub moves_on : (core : Core) (ws : List ℕ) → core.clock < 2 ^ 63 + 2 ^ 33 → (core.clock + (step_of core ws).cost) % 2 ^ 64 ≡ core.clock + (step_of core ws).cost
-moves_on core ws l =
-    let most : (step_of core ws).cost ≤ 91 = (steps core.context core.tables ws core.root core.clock).most in
-    mod-eq_of_lt (omega arith)
+-- while the clock has room for the dearest step it does not wrap
+pub record Moves (m : Moment) : Type 0 where
+  pub by : (next m).core.clock ≡ m.core.clock + (step_of m.core m.words).cost
+  pub least : m.core.clock < (next m).core.clock
+  pub most : (next m).core.clock ≤ m.core.clock + worst_instruction
 
-module _ (root stop : ℕ) where
-  pub until_past : (n : ℕ) (x : Inside) → stop ≤ x.clock → until root stop n x ≡ x
+pub moves : (m : Moment) → m.core.clock + worst_instruction < 2 ^ 64 → Moves m
+moves m room =
+    let s = steps m.core.context m.core.tables m.words m.core.root m.core.clock in
+    let most : (step_of m.core m.words).cost ≤ 91 = s.most in
+    let by : (next m).core.clock ≡ m.core.clock + (step_of m.core m.words).cost = mod-eq_of_lt (omega arith) in
+    record { by = by; least = omega (arith, by, s.least); most = omega (arith, by) }
+
+-- a stopped program changes nothing but the clock, a cycle a step
+idle : (s : State) (x : Context) (t : Tables) (ws : List ℕ) (root clock : ℕ) → is_ready s ≡ false → stepped_by s x t ws root clock ≡ ran x t ws 1
+idle Ready x t ws root clock e = absurd (true≢false e)
+idle (Stopped cause pc) x t ws root clock e = refl
+
+abbrev pub waited : Moment → ℕ → Moment
+waited m clock = record m { core = record m.core { clock = clock } }
+
+pub idles : (m : Moment) → m.core.clock + worst_instruction < 2 ^ 64 → is_ready m.core.context.state ≡ false → next m ≡ waited m (m.core.clock + 1)
+unfolding stepped
+idles m room e =
+    let short : (m.core.clock + 1) % 2 ^ 64 ≡ m.core.clock + 1 = mod-eq_of_lt (omega (arith, room)) in
+    rw (idle m.core.context.state m.core.context m.core.tables m.words m.core.root m.core.clock e, e, add-zero, short) refl
+
+module _ (stop : ℕ) where
+  pub until_past : (n : ℕ) (m : Moment) → stop ≤ m.core.clock → until stop n m ≡ m
   unfolding until
-  until_past zero x l = refl
-  until_past (suc n) x l = cond-false (ltb x.clock stop) _ _ (le-ltb x.clock stop l)
+  until_past zero m l = refl
+  until_past (suc n) m l = cond-false (ltb m.core.clock stop) _ _ (le-ltb m.core.clock stop l)
 
-  pub until_step : (n : ℕ) (x : Inside) → x.clock < stop → until root stop (suc n) x ≡ until root stop n (next root x)
+  pub until_step : (n : ℕ) (m : Moment) → m.core.clock < stop → until stop (suc n) m ≡ until stop n (next m)
   unfolding until
-  until_step n x l = cond-true (ltb x.clock stop) _ _ (lt-ltb x.clock stop l)
+  until_step n m l = cond-true (ltb m.core.clock stop) _ _ (lt-ltb m.core.clock stop l)
 
-  grows : (x : Inside) → x.clock < (next root x).clock
-  grows x = omega (arith, (steps x.context x.tables x.words root x.clock).least)
+  module _ (room : stop + worst_instruction < 2 ^ 64) where
+    goes : (m : Moment) → m.core.clock < stop → Moves m
+    goes m l = moves m (omega (arith, room))
 
-  -- two numbers of steps that both suffice come to the same
-  pub enough : (m n : ℕ) (x : Inside) → stop ≤ x.clock + m → stop ≤ x.clock + n → until root stop m x ≡ until root stop n x
-  enough zero n x a b = until_past zero x (omega arith) ∙ sym (until_past n x (omega arith))
-  enough (suc m) zero x a b = until_past (suc m) x (omega arith) ∙ sym (until_past zero x (omega arith))
-  enough (suc m) (suc n) x a b = elim (cases_lt x.clock stop) [
-    | inl l ↦ until_step m x l ∙ enough m n (next root x) (omega (arith, grows x)) (omega (arith, grows x)) ∙ sym (until_step n x l)
-    | inr l ↦ until_past (suc m) x l ∙ sym (until_past (suc n) x l)
-  ]
+    -- two numbers of steps that both suffice come to the same
+    pub enough : (i n : ℕ) (m : Moment) → stop ≤ m.core.clock + i → stop ≤ m.core.clock + n → until stop i m ≡ until stop n m
+    enough zero n m a b = until_past zero m (omega arith) ∙ sym (until_past n m (omega arith))
+    enough (suc i) zero m a b = until_past (suc i) m (omega arith) ∙ sym (until_past zero m (omega arith))
+    enough (suc i) (suc n) m a b = elim (cases_lt m.core.clock stop) [
+      | inl l ↦ (let g = (goes m l).least in until_step i m l ∙ enough i n (next m) (omega arith) (omega arith) ∙ sym (until_step n m l))
+      | inr l ↦ until_past (suc i) m l ∙ sym (until_past (suc n) m l)
+    ]
 
-  -- one turn of the loop
-  pub until_next : (x : Inside) → x.clock < stop → until root stop (stop - x.clock) x ≡ until root stop (stop - (next root x).clock) (next root x)
-  until_next x l =
-      let m = stop - x.clock - 1 in
-      let e : stop - x.clock ≡ suc m = omega arith in
-      ap (λ n. until root stop n x) e ∙ until_step m x l ∙ enough m (stop - (next root x).clock) (next root x) (omega (arith, grows x)) (omega arith)
+    -- one turn of the loop
+    pub until_next : (m : Moment) → m.core.clock < stop → until stop (stop - (next m).core.clock) (next m) ≡ until stop (stop - m.core.clock) m
+    until_next m l =
+        let n = stop - m.core.clock - 1 in
+        let e : stop - m.core.clock ≡ suc n = omega arith in
+        let g = (goes m l).least in
+        enough (stop - (next m).core.clock) n (next m) (omega arith) (omega arith) ∙ sym (until_step n m l) ∙ ap (λ n. until stop n m) (sym e)
 
-  -- a stopped program changes nothing but the clock, a cycle a step
-  idle : (s : State) (x : Context) (t : Tables) (ws : List ℕ) (clock : ℕ) → is_ready s ≡ false → stepped_by s x t ws root clock ≡ ran x t ws 1
-  idle Ready x t ws clock e = absurd (true≢false e)
-  idle (Stopped cause pc) x t ws clock e = refl
+    -- a stopped program waits for the end of its slot
+    waits : (n : ℕ) (m : Moment) → is_ready m.core.context.state ≡ false → stop ≤ m.core.clock + n → until stop n m ≡ waited m (max m.core.clock stop)
+    waits zero m e l =
+        let s : max m.core.clock stop ≡ m.core.clock = omega arith in
+        until_past zero m (omega arith) ∙ (rw s)
+    waits (suc n) m e l = elim (cases_lt m.core.clock stop) [
+      | inl h ↦
+          let s : max (m.core.clock + 1) stop ≡ max m.core.clock stop = omega arith in
+          until_step n m h ∙ ap (until stop n) (idles m (omega (arith, room)) e) ∙ waits n (waited m (m.core.clock + 1)) e (omega arith) ∙ (rw s)
+      | inr h ↦
+          let s : max m.core.clock stop ≡ m.core.clock = omega arith in
+          until_past (suc n) m h ∙ (rw s)
+    ]
 
-  pub idles : (x : Inside) → is_ready x.context.state ≡ false → next root x ≡ record { context = x.context; tables = x.tables; words = x.words; clock = x.clock + 1; instructions = x.instructions }
-  unfolding stepped
-  idles x e = rw (idle x.context.state x.context x.tables x.words x.clock e, e, add-zero)
+    -- the end of the loop
+    pub done : (m : Moment) → (stop ≤ m.core.clock) ⊎ (is_ready m.core.context.state ≡ false) → waited m (max m.core.clock stop) ≡ until stop (stop - m.core.clock) m
+    done m (inl l) =
+        let s : max m.core.clock stop ≡ m.core.clock = omega arith in
+        (rw s) ∙ sym (until_past (stop - m.core.clock) m l)
+    done m (inr e) = sym (waits (stop - m.core.clock) m e (omega arith))
 
-  -- and so waits for the end of its slot
-  pub waits : (n : ℕ) (x : Inside) → is_ready x.context.state ≡ false → stop ≤ x.clock + n →
-      until root stop n x ≡ record { context = x.context; tables = x.tables; words = x.words; clock = max x.clock stop; instructions = x.instructions }
-  waits zero x e l =
-      let m : max x.clock stop ≡ x.clock = omega arith in
-      until_past zero x (omega arith) ∙ (rw m)
-  waits (suc n) x e l = elim (cases_lt x.clock stop) [
-    | inl h ↦
-        let m : max (x.clock + 1) stop ≡ max x.clock stop = omega arith in
-        until_step n x h ∙ ap (until root stop n) (idles x e) ∙ waits n (record { context = x.context; tables = x.tables; words = x.words; clock = x.clock + 1; instructions = x.instructions }) e (omega arith) ∙ (rw m)
-    | inr h ↦
-        let m : max x.clock stop ≡ x.clock = omega arith in
-        until_past (suc n) x h ∙ (rw m)
-  ]
+    -- the last instruction may begin in the last cycle
+    pub until_most : (n : ℕ) (m : Moment) → m.core.clock < stop + worst_instruction → (until stop n m).core.clock < stop + worst_instruction
+    unfolding until
+    until_most zero m l = l
+    until_most (suc n) m l = elim (cases_lt m.core.clock stop) [
+      | inl b ↦ rw (lt-ltb m.core.clock stop b) (until_most n (next m) (omega (arith, (goes m b).most)))
+      | inr b ↦ rw (le-ltb m.core.clock stop b) l
+    ]
 
-  -- a turn of the loop, by what the core is after its step
-  pub turned : (core y : Core) (ws vs : List ℕ) (n : ℕ) → core.root ≡ root → core.clock < stop → stop < 2 ^ 63 + 2 ^ 33 → is_ready core.context.state ≡ true →
-      y ≡ later core (step_of core ws) → vs ≡ (step_of core ws).words →
-      until root stop (stop - y.clock) (inside y vs (n + 1)) ≡ until root stop (stop - core.clock) (inside core ws n)
-  turned core y ws vs n r l small ready a b =
-      let one : n + 1 ≡ (next root (inside core ws n)).instructions = rw ready in
-      rw (a, b, moves_on core ws (omega arith), r, one) (sym (until_next (inside core ws n) l))
-
-  -- the end of the loop
-  pub done : (x : Inside) → (stop ≤ x.clock) ⊎ (is_ready x.context.state ≡ false) →
-      until root stop (stop - x.clock) x ≡ record { context = x.context; tables = x.tables; words = x.words; clock = max x.clock stop; instructions = x.instructions }
-  done x (inl l) =
-      let m : max x.clock stop ≡ x.clock = omega arith in
-      until_past (stop - x.clock) x l ∙ (rw m)
-  done x (inr e) = waits (stop - x.clock) x e (omega arith)
+    -- enough steps lead to the end
+    pub until_least : (n : ℕ) (m : Moment) → stop ≤ m.core.clock + n → stop ≤ (until stop n m).core.clock
+    unfolding until
+    until_least zero m l = omega arith
+    until_least (suc n) m l = elim (cases_lt m.core.clock stop) [
+      | inl b ↦ rw (lt-ltb m.core.clock stop b) (until_least n (next m) (omega (arith, (goes m b).least)))
+      | inr b ↦ rw (le-ltb m.core.clock stop b) b
+    ]

@@ -1,4 +1,5 @@
 -- The definitions of this crate.
+pub mod Shim
 pub mod Inside
 pub mod Switch
 pub mod Machine

@@ -2,16 +2,19 @@
 use Rattle.std.specs.Prelude.{ℕ, zero, suc, ◌+◌, ◌^◌, max, Bool, cond, ◌&&◌, List, nat_lt, slice_index_or, slice_set}
 use Rattle.tables.specs.First.{first_tables}
 use Rattle.hart.specs.declared.context.Context.{Context}
+use Rattle.hart.specs.declared.step.Core.{Core}
 use Rattle.hart.specs.Execution.{fresh}
 use Rattle.plan.specs.declared.model.Plan.{Plan}
 use Rattle.plan.specs.declared.model.Slot.{Slot}
 use Rattle.plan.specs.Format.{rows}
-use Rattle.plan.specs.Rules.{partition}
+use Rattle.plan.specs.Places.{partition}
+use Rattle.plan.specs.Switch.{copies}
 use Rattle.plan.specs.Timetable.{slot_of}
 use Rattle.checker.specs.declared.Accepted.{Accepted}
 use Rattle.checker.specs.Lawful.{root}
 use Rattle.kernel.specs.declared.machine.Machine.{Machine}
-use Rattle.kernel.specs.Inside.{Inside, beginning, until}
+use Rattle.kernel.specs.Inside.{Inside, onward}
+use Rattle.kernel.specs.Shim.{begun, flushed}
 use Rattle.kernel.specs.Switch.{delivered, switch_work}
 
 abbrev pub fresh_at : Plan → ℕ → Context
@@ -43,13 +46,20 @@ context_of m k = slice_index_or m.contexts k (fresh 0)
 abbrev pub slot_end : Plan → Machine → ℕ
 slot_end p m = m.clock + (coming p m).length
 
--- the start of a slot, seen from the program that runs in it
+-- the core as a partition's program finds it
+abbrev pub core_for : Plan → Machine → ℕ → Core
+core_for p m who = record { context = begun (context_of m who); tables = m.tables; root = root p who; clock = m.clock }
+
+-- the start of a slot: its partition runs
 abbrev pub entered : Plan → System → Inside
-entered p s = beginning (context_of s.machine (who_runs p s.machine)) s.machine.tables s.words s.machine.clock
+entered p s = record {
+  who = who_runs p s.machine;
+  now = record { core = core_for p s.machine (who_runs p s.machine); words = s.words; instructions = 0 };
+}
 
 -- the slot after n of its steps; every step takes a cycle at least, so its length suffices
 unfoldable pub inside_after : Plan → System → ℕ → Inside
-inside_after p s n = until (root p (who_runs p s.machine)) (slot_end p s.machine) n (entered p s)
+inside_after p s n = onward (slot_end p s.machine) n (entered p s)
 
 -- the end of a slot, before the switch
 abbrev pub ended : Plan → System → Inside
@@ -59,25 +69,24 @@ ended p s = inside_after p s (coming p s.machine).length
 abbrev pub can_run : Plan → Machine → Bool
 can_run p m = nat_lt (who_runs p m) 8 && (nat_lt (m.turn + 1) (2 ^ 32) && nat_lt m.clock (2 ^ 63))
 
--- a machine whose slot has ended at a reading of the clock, after the switch: dirty lines are written back, the tables are set to their first state,
--- the messages are carried, and the kernel waits for the moment at which the next slot begins
+-- a machine whose slot has ended at a reading of the clock, after the switch: dirty lines are written back, the tables are flushed,
+-- the copies are made, and the kernel waits for the moment at which the next slot begins
 abbrev pub switched : Plan → Machine → ℕ → Machine
-switched p m now = record {
-  contexts = m.contexts;
-  tables = first_tables;
+switched p m now = record m {
+  tables = flushed m.tables;
   clock = max (now + switch_work p (who_runs p m) m.tables) (slot_end p m + p.budget);
   turn = m.turn + 1;
 }
 
--- the machine with what its program has made of its context and of the tables
-abbrev pub with_program : Plan → Machine → Inside → Machine
-with_program p m x = record { contexts = slice_set m.contexts (who_runs p m) x.context; tables = x.tables; clock = m.clock; turn = m.turn }
+-- the machine with what the program that runs has made of its context and of the tables
+abbrev pub with_program : Machine → Inside → Machine
+with_program m x = record m { contexts = slice_set m.contexts x.who x.now.core.context; tables = x.now.core.tables }
 
 -- one slot with its switch
 unfoldable pub slot_ran : Accepted → System → System
 slot_ran a s = record {
-  machine = switched a.plan (with_program a.plan s.machine (ended a.plan s)) (ended a.plan s).clock;
-  words = delivered a (who_runs a.plan s.machine) a.plan.counts.channels (ended a.plan s).words;
+  machine = switched a.plan (with_program s.machine (ended a.plan s)) (ended a.plan s).now.core.clock;
+  words = delivered a (copies a.plan (who_runs a.plan s.machine)) (ended a.plan s).now.words;
 }
 
 -- where it cannot be run, nothing changes

@@ -1,11 +1,12 @@
--- The switch after a slot: its messages, and the cycles of its work.
-use Rattle.std.specs.Prelude.{ℕ, zero, suc, ◌+◌, ◌*◌, cond, List}
-use Rattle.words.specs.Costs.{message, write_back}
-use Rattle.words.specs.Frames.{copied}
+-- The switch after a slot: its copies, and the cycles of its work.
+use Rattle.std.specs.Prelude.{ℕ, ◌+◌, ◌*◌, cond, ◌&&◌, List, fold}
+use Rattle.std.proofs.Math.Seq.{paste}
+use Rattle.costs.specs.Costs.{write_back}
+use Rattle.words.specs.Frames.{contents, lent}
 use Rattle.tables.specs.declared.Tables.{Tables}
 use Rattle.tables.specs.Cache.{dirty_count}
 use Rattle.plan.specs.declared.model.Plan.{Plan}
-use Rattle.plan.specs.Rules.{channels_out, leaves}
+use Rattle.plan.specs.Switch.{Copy, copies, copy_cycles}
 use Rattle.checker.specs.declared.Accepted.{Accepted}
 use Rattle.checker.specs.declared.pages.Ends.{Ends}
 use Rattle.checker.specs.Pages.{ends_at}
@@ -14,15 +15,18 @@ use Rattle.checker.specs.Pages.{ends_at}
 abbrev pub ends_of : Accepted → ℕ → Ends
 ends_of a k = ends_at a.ends k
 
--- the words after the message of channel k, which goes only after a slot of its sender
-unfoldable pub carried : Accepted → ℕ → ℕ → List ℕ → List ℕ
-carried a who k words = cond (leaves a.plan who k) (copied words (ends_of a k).sender (ends_of a k).receiver) words
+-- the words after so many of one frame are copied over those of another; nothing is copied where one of the frames is not lent
+abbrev pub copied_words : List ℕ → ℕ → ℕ → ℕ → List ℕ
+copied_words words from to count = cond (lent words from && lent words to) (paste words (to * 1024) (contents words from) count) words
 
--- the words after the messages of the first n channels, in the plan's order
-unfoldable pub delivered : Accepted → ℕ → ℕ → List ℕ → List ℕ
-delivered a who zero words = words
-delivered a who (suc n) words = carried a who n (delivered a who n words)
+-- the words after a copy between the frames that its channel joins
+abbrev pub carried : Accepted → List ℕ → Copy → List ℕ
+carried a words c = copied_words words (ends_of a c.channel).sender (ends_of a c.channel).receiver c.words
 
--- the cycles of a switch: every dirty line is written back, and every message out of the partition that ran is copied
+-- the words after one copy and the next
+abbrev pub delivered : Accepted → List Copy → List ℕ → List ℕ
+delivered a cs words = fold (carried a) words cs
+
+-- the cycles of a switch: every dirty line is written back, and every copy after a slot of the partition that ran is made
 abbrev pub switch_work : Plan → ℕ → Tables → ℕ
-switch_work p who t = write_back * dirty_count t.cache + message * channels_out p who
+switch_work p who t = write_back * dirty_count t.cache + copy_cycles (copies p who)

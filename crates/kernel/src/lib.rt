@@ -4,5 +4,5 @@
 mod inside;
 mod line;
 pub mod machine;
-pub mod messages;
+mod messages;
 pub mod report;

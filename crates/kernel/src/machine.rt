@@ -1,6 +1,6 @@
 // The machine: contexts, tables, clock, and the slot to come.
 ghost use Rattle.std.specs.Prelude.{◌≡◌, ◌+◌, ◌-◌, ◌^◌, ◌<◌};
-ghost use Rattle.kernel.specs.Machine.{after_slot, loaded, switched, system};
+ghost use Rattle.kernel.specs.Machine.{after_slot, core_for, loaded, switched, system};
 ghost use Rattle.kernel.specs.Reports.{slot_report};
 
 use crate::inside::run_until;
@@ -13,7 +13,7 @@ use hart::stepper::Stepper;
 use isa::decoder::Decoder;
 use plan::model::{MOST_PARTITIONS, Plan};
 use tables::Tables;
-use words::costs::{MESSAGE, WRITE_BACK};
+use costs::WRITE_BACK;
 
 // No slot begins once the clock has come to this.
 const LATEST: u64 = 1 << 63;
@@ -60,13 +60,9 @@ impl Machine {
         if who >= MOST_PARTITIONS || self.turn == u32::MAX || self.clock >= LATEST {
             return None;
         }
-        let mut stepper = Stepper::new(Core {
-            context: self.contexts[who],
-            tables: self.tables,
-            root: u32::from(accepted.plan.partition(who).root),
-            clock: self.clock,
-        });
-        let instructions = run_until(&mut stepper, words, slot.length, decoder);
+        let mut stepper = Stepper::new(self.core_for(&accepted.plan, slot.partition));
+        let stop = self.clock + u64::from(slot.length);
+        let instructions = run_until(&mut stepper, words, stop, decoder);
         let core = &stepper.core;
         self.contexts[who] = core.context;
         let report = Report {
@@ -83,6 +79,20 @@ impl Machine {
         Some(report)
     }
 
+    // The core as a partition's program finds it.
+    fn core_for(&self, plan: &Plan, who: u8) -> Core
+        requires { who < 8 }
+        ensures { result ≡ core_for plan.now self.now who }
+    {
+        let who = who as usize;
+        Core {
+            context: self.contexts[who],
+            tables: self.tables,
+            root: u32::from(plan.partition(who).root),
+            clock: self.clock,
+        }
+    }
+
     // The switch after a slot that a core has run to its end, but for the words of its messages:
     // write-backs and copies take their time, and the next slot begins on time.
     fn switch(&mut self, plan: &Plan, ended: &Core)
@@ -93,7 +103,7 @@ impl Machine {
     {
         let slot = plan.slot_of(self.turn);
         let written_back = ended.tables.cache.dirty_lines() * WRITE_BACK;
-        let copied = u32::from(plan.channels_out(slot.partition)) * MESSAGE;
+        let copied = plan.copy_cycles(slot.partition);
         let done = ended.clock + u64::from(written_back) + u64::from(copied);
         let next = self.clock + u64::from(slot.length) + plan.budget as u64;
         self.tables.reset();

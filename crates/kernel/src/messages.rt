@@ -1,5 +1,7 @@
 // The messages that go after a slot: over each channel of the partition that ran, its page is copied to the receiver's.
-ghost use Rattle.std.specs.Prelude.{◌≡◌};
+ghost use Rattle.std.specs.Prelude.{◌≡◌, cond};
+ghost use Rattle.plan.specs.Places.{leaves};
+ghost use Rattle.plan.specs.Switch.{copies, message};
 ghost use Rattle.checker.specs.Pages.{ends_at};
 ghost use Rattle.kernel.specs.Switch.{carried, delivered};
 
@@ -13,9 +15,8 @@ fn ends_at(ends: &[Ends], k: u8) -> Ends
     ends.get(usize::from(k)).copied().unwrap_or_default()
 }
 
-#[tactic(auto, unfolding(crate::specs::Switch::carried))]
 fn carry(accepted: &Accepted, who: u8, k: u8, words: &mut [u32])
-    ensures { words.new ≡ carried accepted.now who k words.old }
+    ensures { words.new ≡ cond (leaves accepted.now.plan who k) (carried accepted.now words.old (message accepted.now.plan k)) words.old }
 {
     if accepted.plan.channel(usize::from(k)).sender.partition == who {
         let ends = ends_at(&accepted.ends, k);
@@ -25,9 +26,8 @@ fn carry(accepted: &Accepted, who: u8, k: u8, words: &mut [u32])
 
 // Carries the messages out of the partition that ran, in the plan's order.
 // By number and not by a `zip`: a plan that nobody accepted may count more channels than there are, and past them each is blank.
-#[tactic(auto, unfolding(crate::specs::Switch::delivered))]
-pub fn deliver(accepted: &Accepted, who: u8, words: &mut [u32])
-    ensures { words.new ≡ delivered accepted.now who accepted.now.plan.counts.channels words.old }
+pub(crate) fn deliver(accepted: &Accepted, who: u8, words: &mut [u32])
+    ensures { words.new ≡ delivered accepted.now (copies accepted.now.plan who) words.old }
 {
     for k in 0..accepted.plan.counts.channels {
         carry(accepted, who, k, words);

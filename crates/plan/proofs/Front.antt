@@ -1,4 +1,4 @@
--- The verdict on a file is that on its front part.
+-- The plan that a file says is that of its front part.
 use Rattle.std.proofs.Common.{◌≡◌, ℕ, ◌+◌, ◌*◌, ◌<◌, ◌≤◌, List, length, take, refl, ap, ◌∙◌, inl, inr, arith}
 use Rattle.std.proofs.lemmas.List.{get_or-take, length-take-le, take_all}
 use Rattle.std.proofs.lemmas.Bool.{cases_lt, le-leb, lt-leb}
@@ -9,17 +9,17 @@ use Rattle.plan.specs.declared.model.Partition.{Partition}
 use Rattle.plan.specs.declared.model.Slot.{Slot}
 use Rattle.plan.specs.declared.model.Channel.{Channel}
 use Rattle.plan.specs.declared.model.Plan.{Plan}
-use Rattle.plan.specs.Format.{counts_of, plan_of, plan_size, partition_row, slot_row, channel_row, partitions_in, slots_in, channels_in, no_partition, no_slot, no_channel, partitions_from, slots_from, channels_from}
-use Rattle.plan.specs.Rules.{fault, parsed, truncated, surplus, longest, FrontTellsAll, TellsAll}
+use Rattle.plan.specs.Format.{Part, channel_at, channels_from, channels_part, counts_of, longest, no_channel, no_partition, no_slot, part_in, partition_at, partitions_from, partitions_part, plan_of, plan_size, slot_at, slots_from, slots_part}
+use Rattle.plan.specs.Rules.{FrontTellsAll, surplus, truncated}
 use Rattle.plan.proofs.Rows.{rows_same}
 
 abbrev plan_with : List ℕ → Counts → Plan
 plan_with bytes c = record {
   counts = c;
   budget = number bytes 3 4;
-  partitions = partitions_in bytes partitions_from c.partitions;
-  slots = slots_in bytes (slots_from c) c.slots;
-  channels = channels_in bytes (channels_from c) c.channels;
+  partitions = part_in partition_at no_partition bytes (partitions_from c) (partitions_part c);
+  slots = part_in slot_at no_slot bytes (slots_from c) (slots_part c);
+  channels = part_in channel_at no_channel bytes (channels_from c) (channels_part c);
 }
 
 made_same : (c : Counts) (b b' : ℕ) → b ≡ b' → (p p' : List Partition) → p ≡ p' → (s s' : List Slot) → s ≡ s' → (h h' : List Channel) → h ≡ h' →
@@ -40,33 +40,28 @@ module _ (bytes : List ℕ) (n : ℕ) (small : (i : ℕ) → byte bytes i < 256)
   size_below : plan_size (counts_of bytes) < longest
   size_below = omega (arith, small 0, small 1, small 2)
 
-  partition_front : (k : ℕ) → k < 8 → partition_row (take n bytes) partitions_from k ≡ partition_row bytes partitions_from k
-  partition_front k l = rw (number_front (partitions_from + 6 * k) 2 (omega arith), number_front (partitions_from + 6 * k + 2) 4 (omega arith)) refl
+  same_part : {X : Type 0} (row : List ℕ → ℕ → X) (blank : X) (start : ℕ) (part : Part) →
+      ((k : ℕ) → k < part.room → row (take n bytes) (start + part.size * k) ≡ row bytes (start + part.size * k)) →
+      part_in row blank (take n bytes) start part ≡ part_in row blank bytes start part
+  same_part row blank start part h = rows_same (λ k. row (take n bytes) (start + part.size * k)) (λ k. row bytes (start + part.size * k)) blank part.room part.many h
 
-  slot_front : (k : ℕ) → k < 64 → slot_row (take n bytes) (slots_from (counts_of bytes)) k ≡ slot_row bytes (slots_from (counts_of bytes)) k
-  slot_front k l =
-      let at = slots_from (counts_of bytes) + 5 * k in
-      let room : at + 5 ≤ n = omega (arith, small 0) in
-      rw (byte_front at (omega arith), number_front (at + 1) 4 (omega arith)) refl
+  partition_front : (at : ℕ) → at + 6 ≤ n → partition_at (take n bytes) at ≡ partition_at bytes at
+  partition_front at room = rw (number_front at 2 (omega arith), number_front (at + 2) 4 (omega arith)) refl
 
-  channel_front : (k : ℕ) → k < 16 → channel_row (take n bytes) (channels_from (counts_of bytes)) k ≡ channel_row bytes (channels_from (counts_of bytes)) k
-  channel_front k l =
-      let at = channels_from (counts_of bytes) + 10 * k in
-      let room : at + 10 ≤ n = omega (arith, small 0, small 1) in
-      rw (byte_front at (omega arith), byte_front (at + 1) (omega arith), number_front (at + 2) 4 (omega arith), number_front (at + 6) 4 (omega arith)) refl
+  slot_front : (at : ℕ) → at + 5 ≤ n → slot_at (take n bytes) at ≡ slot_at bytes at
+  slot_front at room = rw (byte_front at (omega arith), number_front (at + 1) 4 (omega arith)) refl
+
+  channel_front : (at : ℕ) → at + 10 ≤ n → channel_at (take n bytes) at ≡ channel_at bytes at
+  channel_front at room = rw (byte_front at (omega arith), byte_front (at + 1) (omega arith), number_front (at + 2) 4 (omega arith), number_front (at + 6) 4 (omega arith)) refl
 
   plan_front : plan_of (take n bytes) ≡ plan_of bytes
   unfolding plan_of
   plan_front =
       let c = counts_of bytes in
-      let budget = number_front 3 4 (omega arith) in
-      let partitions = rows_same (partition_row (take n bytes) partitions_from) (partition_row bytes partitions_from) no_partition 8 c.partitions partition_front in
-      let slots = rows_same (slot_row (take n bytes) (slots_from c)) (slot_row bytes (slots_from c)) no_slot 64 c.slots slot_front in
-      let channels = rows_same (channel_row (take n bytes) (channels_from c)) (channel_row bytes (channels_from c)) no_channel 16 c.channels channel_front in
-      ap (plan_with (take n bytes)) counts_front
-      ∙ made_same c (number (take n bytes) 3 4) (number bytes 3 4) budget (partitions_in (take n bytes) partitions_from c.partitions) (partitions_in bytes partitions_from c.partitions) partitions
-      (slots_in (take n bytes) (slots_from c) c.slots) (slots_in bytes (slots_from c) c.slots) slots
-      (channels_in (take n bytes) (channels_from c) c.channels) (channels_in bytes (channels_from c) c.channels) channels
+      let partitions = same_part partition_at no_partition (partitions_from c) (partitions_part c) (λ k l. partition_front (partitions_from c + 6 * k) (omega arith)) in
+      let slots = same_part slot_at no_slot (slots_from c) (slots_part c) (λ k l. slot_front (slots_from c + 5 * k) (omega (arith, small 0))) in
+      let channels = same_part channel_at no_channel (channels_from c) (channels_part c) (λ k l. channel_front (channels_from c + 10 * k) (omega (arith, small 0, small 1))) in
+      ap (plan_with (take n bytes)) counts_front ∙ made_same c _ _ (number_front 3 4 (omega arith)) _ _ partitions _ _ slots _ _ channels
 
   -- where the file goes on past the front part, neither length is too short, and both are too long
   early_front : n < length bytes → truncated (take n bytes) (plan_of bytes) ≡ truncated bytes (plan_of bytes)
@@ -88,7 +83,3 @@ front_tells_all bytes n small enough = elim (cases_lt n (length bytes)) [
   | inl l ↦ record { plan = plan_front bytes n small enough; early = early_front bytes n small enough l; late = late_front bytes n small enough l }
   | inr l ↦ let same = take_all n bytes l in record { plan = ap plan_of same; early = ap (λ b. truncated b (plan_of bytes)) same; late = ap (λ b. surplus b (plan_of bytes)) same }
 ]
-
-pub tells_all : TellsAll
-unfolding parsed fault
-tells_all bytes n small enough = let front = front_tells_all bytes n small enough in rw (front.plan, front.early, front.late) refl

@@ -1,6 +1,5 @@
--- The plan's bytes: three counts of one byte, the budget in four, then 6 bytes for each partition, 5 for each slot and 10 for each
--- channel. Numbers are low byte first.
-use Rattle.std.specs.Prelude.{ℕ, ◌+◌, ◌*◌, cond, List, map, nat_lt}
+-- The plan's bytes: three counts of one byte, the budget in four, then the parts, rows of one size each. Numbers are low byte first.
+use Rattle.std.specs.Prelude.{ℕ, ◌+◌, ◌*◌, cond, List, [], ◌∷◌, map, take, nat_lt}
 use Rattle.std.specs.List.{range_with_len}
 use Rattle.words.specs.Bytes.{byte, number}
 use Rattle.plan.specs.declared.model.Counts.{Counts}
@@ -12,18 +11,57 @@ use Rattle.plan.specs.declared.model.Plan.{Plan}
 abbrev pub counts_of : List ℕ → Counts
 counts_of bytes = record { partitions = byte bytes 0; slots = byte bytes 1; channels = byte bytes 2 }
 
--- where the partitions, the slots and the channels begin, and where the plan ends
-abbrev pub partitions_from : ℕ
-partitions_from = 7
+-- a part of a plan: how many rows it has, how many bytes a row has, and for how many rows there is room
+pub record Part : Type 0 where
+  pub many : ℕ
+  pub size : ℕ
+  pub room : ℕ
+
+abbrev pub partitions_part : Counts → Part
+partitions_part c = record { many = c.partitions; size = 6; room = 8 }
+
+abbrev pub slots_part : Counts → Part
+slots_part c = record { many = c.slots; size = 5; room = 64 }
+
+abbrev pub channels_part : Counts → Part
+channels_part c = record { many = c.channels; size = 10; room = 16 }
+
+-- the parts that follow the header, in their order
+abbrev pub parts : Counts → List Part
+parts c = partitions_part c ∷ slots_part c ∷ channels_part c ∷ []
+
+-- where parts end that begin at a place
+abbrev pub end_of : ℕ → List Part → ℕ
+end_of start [] = start
+end_of start (part ∷ more) = end_of (start + part.size * part.many) more
+
+abbrev pub header : ℕ
+header = 7
+
+-- where a part begins, by how many stand before it
+abbrev pub part_from : Counts → ℕ → ℕ
+part_from c before = end_of header (take before (parts c))
+
+abbrev pub partitions_from : Counts → ℕ
+partitions_from c = part_from c 0
 
 abbrev pub slots_from : Counts → ℕ
-slots_from c = partitions_from + 6 * c.partitions
+slots_from c = part_from c 1
 
 abbrev pub channels_from : Counts → ℕ
-channels_from c = slots_from c + 5 * c.slots
+channels_from c = part_from c 2
 
+-- where the plan ends
 abbrev pub plan_size : Counts → ℕ
-plan_size c = channels_from c + 10 * c.channels
+plan_size c = end_of header (parts c)
+
+-- the largest counts that their bytes hold
+abbrev pub fullest : Counts
+fullest = record { partitions = 255; slots = 255; channels = 255 }
+
+-- the bytes of the longest plan that counts can ask for, and one more
+abbrev pub longest : ℕ
+longest = plan_size fullest + 1
 
 -- root frame in two bytes, start address in four
 abbrev pub partition_at : List ℕ → ℕ → Partition
@@ -54,30 +92,16 @@ no_channel = record { sender = record { partition = 0; page = 0 }; receiver = re
 unfoldable pub rows : {X : Type 0} → (ℕ → X) → X → ℕ → ℕ → List X
 rows at blank room many = map (λ k. cond (nat_lt k many) (at k) blank) (range_with_len 0 room)
 
-abbrev pub partition_row : List ℕ → ℕ → ℕ → Partition
-partition_row bytes start k = partition_at bytes (start + 6 * k)
-
-abbrev pub slot_row : List ℕ → ℕ → ℕ → Slot
-slot_row bytes start k = slot_at bytes (start + 5 * k)
-
-abbrev pub channel_row : List ℕ → ℕ → ℕ → Channel
-channel_row bytes start k = channel_at bytes (start + 10 * k)
-
-abbrev pub partitions_in : List ℕ → ℕ → ℕ → List Partition
-partitions_in bytes start many = rows (partition_row bytes start) no_partition 8 many
-
-abbrev pub slots_in : List ℕ → ℕ → ℕ → List Slot
-slots_in bytes start many = rows (slot_row bytes start) no_slot 64 many
-
-abbrev pub channels_in : List ℕ → ℕ → ℕ → List Channel
-channels_in bytes start many = rows (channel_row bytes start) no_channel 16 many
+-- the rows of a part that begins at a place
+abbrev pub part_in : {X : Type 0} → (List ℕ → ℕ → X) → X → List ℕ → ℕ → Part → List X
+part_in row blank bytes start part = rows (λ k. row bytes (start + part.size * k)) blank part.room part.many
 
 -- the plan that the bytes say
 unfoldable pub plan_of : List ℕ → Plan
 plan_of bytes = let c = counts_of bytes in record {
   counts = c;
   budget = number bytes 3 4;
-  partitions = partitions_in bytes partitions_from c.partitions;
-  slots = slots_in bytes (slots_from c) c.slots;
-  channels = channels_in bytes (channels_from c) c.channels;
+  partitions = part_in partition_at no_partition bytes (partitions_from c) (partitions_part c);
+  slots = part_in slot_at no_slot bytes (slots_from c) (slots_part c);
+  channels = part_in channel_at no_channel bytes (channels_from c) (channels_part c);
 }

@@ -1,14 +1,11 @@
 -- The rules of a plan that need no memory, each a sentence of its own. No order stands in them; the one thing that is
 -- counted is how many channels lead out of a partition.
-use Rattle.std.specs.Prelude.{◌≡◌, ℕ, ◌+◌, ◌*◌, ◌%◌, ◌<◌, ◌≤◌, ◌≢◌, ◌⊎◌, List, length, Result, MatchResult}
-use Rattle.words.specs.Costs.{message, switch}
+use Rattle.std.specs.Prelude.{◌≡◌, ℕ, ◌+◌, ◌*◌, ◌%◌, ◌<◌, ◌≤◌, ◌≢◌, List, length}
+use Rattle.costs.specs.Costs.{copied_word, worst_switch}
 use Rattle.plan.specs.declared.model.Plan.{Plan}
 use Rattle.plan.specs.declared.refusal.Count.{Count}
 use Rattle.plan.specs.declared.refusal.Count.TheVariants.{Partitions, Slots, Channels}
-use Rattle.plan.specs.declared.refusal.Refusal.{Refusal}
-use Rattle.plan.specs.declared.refusal.Refusal.TheVariants.{Truncated, CountRange, SlotRule, ChannelRule, ChannelPage, RootRule, TableMalformed, FrameShared, StartMisaligned, BudgetRule, FramesMissing, Surplus}
 use Rattle.plan.specs.Format.{plan_of, plan_size}
-use Rattle.plan.specs.Refused.{number_of, place_of}
 use Rattle.plan.specs.Rules.{partition, slot, channel, channels_out}
 
 -- 1 to 8 partitions, 1 to 64 slots, at most 16 channels
@@ -35,11 +32,11 @@ StartFits p k = (partition p k).start % 4 ≡ 0
 -- channels out of it
 abbrev pub BudgetFits : Plan → Type 0
 BudgetFits p =
-    (64 ≤ p.budget) × (p.budget ≤ 100000) × (switch ≤ p.budget)
-    × ((who : ℕ) → who < p.counts.partitions → switch + message * channels_out p who ≤ p.budget)
+    (64 ≤ p.budget) × (p.budget ≤ 100000) × (worst_switch ≤ p.budget)
+    × ((who : ℕ) → who < p.counts.partitions → worst_switch + 1024 * copied_word * channels_out p who ≤ p.budget)
 
 -- bytes that keep every rule
-pub record Lawful (bytes : List ℕ) : Type 0 where
+pub record PlanLawful (bytes : List ℕ) : Type 0 where
   pub whole : plan_size (plan_of bytes).counts ≤ length bytes
   pub counts : (c : Count) → CountFits (plan_of bytes) c
   pub slots : (k : ℕ) → k < (plan_of bytes).counts.slots → SlotFits (plan_of bytes) k
@@ -47,36 +44,3 @@ pub record Lawful (bytes : List ℕ) : Type 0 where
   pub starts : (k : ℕ) → k < (plan_of bytes).counts.partitions → StartFits (plan_of bytes) k
   pub budget : BudgetFits (plan_of bytes)
   pub no_surplus : length bytes ≤ plan_size (plan_of bytes).counts
-
--- the rule of a refusal is broken at its place; the rules on frames are the checker's, and count as unbroken here
-unfoldable pub Broken : List ℕ → Refusal → Type 0
-Broken bytes (Truncated at) = (length bytes < plan_size (plan_of bytes).counts) × (at ≡ length bytes)
-Broken bytes (CountRange c) = CountFits (plan_of bytes) c → ⊥
-Broken bytes (SlotRule k) = (k < (plan_of bytes).counts.slots) × (SlotFits (plan_of bytes) k → ⊥)
-Broken bytes (ChannelRule k) = (k < (plan_of bytes).counts.channels) × (ChannelFits (plan_of bytes) k → ⊥)
-Broken bytes (ChannelPage k) = ⊥
-Broken bytes (RootRule k) = ⊥
-Broken bytes (TableMalformed k) = ⊥
-Broken bytes (FrameShared k) = ⊥
-Broken bytes (StartMisaligned k) = (k < (plan_of bytes).counts.partitions) × (StartFits (plan_of bytes) k → ⊥)
-Broken bytes BudgetRule = BudgetFits (plan_of bytes) → ⊥
-Broken bytes FramesMissing = ⊥
-Broken bytes (Surplus at) = (plan_size (plan_of bytes).counts < length bytes) × (at ≡ plan_size (plan_of bytes).counts)
-
--- one finding comes before another: by its rule, and within a rule by its place
-abbrev pub Earlier : {F : Type 0} → (F → ℕ) → (F → ℕ) → F → F → Type 0
-Earlier rule place e d = (rule e < rule d) ⊎ ((rule e ≡ rule d) × (place e ≤ place d))
-
--- a refusal comes before another: by its number, and within a number by its place
-abbrev pub Before : Refusal → Refusal → Type 0
-Before = Earlier number_of place_of
-
--- of all rules that are broken, the first
-pub record FirstBroken (bytes : List ℕ) (e : Refusal) : Type 0 where
-  pub broken : Broken bytes e
-  pub first : (d : Refusal) → Broken bytes d → Before e d
-
--- what a verdict on the bytes has to be
-pub record Judges (bytes : List ℕ) (r : Result Plan Refusal) : Type 0 where
-  pub accepts : Lawful bytes → r ≡ Result.Ok (plan_of bytes)
-  pub cases : MatchResult r (λ p. Lawful bytes × (p ≡ plan_of bytes)) (λ e. FirstBroken bytes e)

@@ -1,5 +1,5 @@
--- The number and the place of each refusal.
-use Rattle.std.specs.Prelude.{◌≡◌, ℕ, cond, List, ◌++◌, codes, decimal, ◌==◌}
+-- The number and the place of each refusal, and the turn in which its rule is asked.
+use Rattle.std.specs.Prelude.{◌≡◌, ℕ, suc, ◌<◌, cond, List, [], ◌∷◌, ◌++◌, length, codes, decimal, ◌==◌, slice_index}
 use Rattle.plan.specs.declared.refusal.Count.{Count}
 use Rattle.plan.specs.declared.refusal.Count.TheVariants.{Partitions, Slots, Channels}
 use Rattle.plan.specs.declared.refusal.Refusal.{Refusal}
@@ -18,6 +18,31 @@ number_of (StartMisaligned partition) = 9
 number_of BudgetRule = 10
 number_of FramesMissing = 11
 number_of (Surplus at) = 12
+
+-- the numbers of the rules in the order in which they are asked
+abbrev pub turns : List ℕ
+turns = 1 ∷ 2 ∷ 3 ∷ 4 ∷ 5 ∷ 6 ∷ 7 ∷ 8 ∷ 9 ∷ 10 ∷ 11 ∷ 12 ∷ []
+
+-- the index of a number in a list, the list's length where it does not stand there
+unfoldable pub index_in : List ℕ → ℕ → ℕ
+index_in [] n = 0
+index_in (m ∷ ms) n = cond (m == n) 0 (suc (index_in ms n))
+
+-- in which turn the rule with a number is asked
+abbrev pub rank : ℕ → ℕ
+rank number = index_in turns number
+
+-- every rule has a turn, in which it is asked
+pub record Ranked (number : ℕ) : Type 0 where
+  pub some : rank number < length turns
+  pub asked : slice_index turns (rank number) ≡ number
+
+abbrev pub AllRanked : Type 0
+AllRanked = (e : Refusal) → Ranked (number_of e)
+
+-- so the turn tells the rule
+abbrev pub RankTells : Type 0
+RankTells = (e d : Refusal) → rank (number_of e) ≡ rank (number_of d) → number_of e ≡ number_of d
 
 -- the counts are the first three bytes
 abbrev pub count_place : Count → ℕ

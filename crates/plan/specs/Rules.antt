@@ -1,41 +1,16 @@
--- The rules of a plan that need no memory as tests, and the refusal of the first that is broken.
-use Rattle.std.specs.Prelude.{◌≡◌, ℕ, ◌+◌, ◌*◌, ◌%◌, ◌<◌, ◌≤◌, Bool, cond, not, ◌&&◌, List, length, take, Some, None, Option, Result, ◌==◌, nat_le, nat_lt, slice_index_or}
-use Rattle.std.specs.Option.{option_or}
+-- The rules of a plan that need no memory as tests, each with its refusal.
+use Rattle.std.specs.Prelude.{◌≡◌, ℕ, ◌%◌, ◌<◌, ◌≤◌, Bool, cond, not, ◌&&◌, List, length, take, Some, None, Option, ◌==◌, nat_le, nat_lt}
 use Rattle.words.specs.Bytes.{byte}
-use Rattle.words.specs.Costs.{switch, message}
-use Rattle.words.specs.First.{unless, first, count, most}
 use Rattle.plan.specs.declared.model.Counts.{Counts}
-use Rattle.plan.specs.declared.model.Partition.{Partition}
-use Rattle.plan.specs.declared.model.Slot.{Slot}
-use Rattle.plan.specs.declared.model.Channel.{Channel}
 use Rattle.plan.specs.declared.model.Plan.{Plan}
 use Rattle.plan.specs.declared.refusal.Count.{Count}
 use Rattle.plan.specs.declared.refusal.Count.TheVariants.{Partitions, Slots, Channels}
 use Rattle.plan.specs.declared.refusal.Refusal.{Refusal}
 use Rattle.plan.specs.declared.refusal.Refusal.TheVariants.{Truncated, CountRange, SlotRule, ChannelRule, StartMisaligned, BudgetRule, Surplus}
 use Rattle.plan.specs.Refused.{count_at}
-use Rattle.plan.specs.Format.{plan_of, plan_size, no_partition, no_slot, no_channel}
-
-abbrev pub partition : Plan → ℕ → Partition
-partition p k = slice_index_or p.partitions k no_partition
-
-abbrev pub slot : Plan → ℕ → Slot
-slot p k = slice_index_or p.slots k no_slot
-
-abbrev pub channel : Plan → ℕ → Channel
-channel p k = slice_index_or p.channels k no_channel
-
--- whether a channel leads out of a partition
-abbrev pub leaves : Plan → ℕ → ℕ → Bool
-leaves p who k = (channel p k).sender.partition == who
-
--- how many channels lead out of a partition
-abbrev pub channels_out : Plan → ℕ → ℕ
-channels_out p who = count (leaves p who) p.counts.channels
-
--- the cycles that a switch may need: the last instruction, the write-back of every line, and the messages of the busiest sender
-abbrev pub ample : Plan → ℕ
-ample p = switch + message * most (channels_out p) p.counts.partitions
+use Rattle.plan.specs.Format.{longest, plan_of, plan_size}
+pub use Rattle.plan.specs.Places.{partition, slot, channel, leaves, channels_out}
+use Rattle.plan.specs.Switch.{required_budget}
 
 abbrev pub broken_unless : Bool → Refusal → Option Refusal
 broken_unless kept e = cond kept None (Some e)
@@ -69,7 +44,7 @@ abbrev pub start_fault : Plan → ℕ → Option Refusal
 start_fault p k = broken_unless (start_kept p k) (StartMisaligned k)
 
 abbrev pub budget_kept : Plan → Bool
-budget_kept p = nat_le 64 p.budget && (nat_le p.budget 100000 && nat_le (ample p) p.budget)
+budget_kept p = nat_le 64 p.budget && (nat_le p.budget 100000 && nat_le (required_budget p) p.budget)
 
 abbrev pub budget_fault : Plan → Option Refusal
 budget_fault p = broken_unless (budget_kept p) BudgetRule
@@ -80,29 +55,7 @@ truncated bytes p = broken_unless (nat_le (plan_size p.counts) (length bytes)) (
 abbrev pub surplus : List ℕ → Plan → Option Refusal
 surplus bytes p = broken_unless (nat_le (length bytes) (plan_size p.counts)) (Surplus (plan_size p.counts))
 
--- the rules in their order
-unfoldable pub fault : List ℕ → Plan → Option Refusal
-fault bytes p =
-    option_or (truncated bytes p)
-    (option_or (first (count_fault p.counts) 3)
-    (option_or (first (slot_fault p) p.counts.slots)
-    (option_or (first (channel_fault p) p.counts.channels)
-    (option_or (first (start_fault p) p.counts.partitions)
-    (option_or (budget_fault p) (surplus bytes p))))))
-
--- the refusal of the first broken rule, or the plan that the bytes say
-unfoldable pub parsed : List ℕ → Result Plan Refusal
-parsed bytes = unless (fault bytes (plan_of bytes)) (plan_of bytes)
-
--- the bytes of the longest plan that three counts of a byte can ask for, and one more
-abbrev pub longest : ℕ
-longest = 5363
-
--- so the verdict on a file is that on so many of its bytes
-abbrev pub TellsAll : Type 0
-TellsAll = (bytes : List ℕ) (n : ℕ) → ((i : ℕ) → byte bytes i < 256) → longest ≤ n → parsed (take n bytes) ≡ parsed bytes
-
--- and the plan that a file says, and whether its bytes end too early or too late, is told by so many of its bytes
+-- the plan that a file says, and whether its bytes end too early or too late, is told by so many of its bytes
 pub record FrontTells (bytes : List ℕ) (n : ℕ) : Type 0 where
   pub plan : plan_of (take n bytes) ≡ plan_of bytes
   pub early : truncated (take n bytes) (plan_of bytes) ≡ truncated bytes (plan_of bytes)

@@ -1,9 +1,8 @@
-// The plan's bytes: three counts of one byte, the budget in four, then 6 bytes for each partition, 5 for each slot
-// and 10 for each channel. Numbers are low byte first.
+// The plan's bytes: three counts of one byte, the budget in four, then the parts, rows of one size each. Numbers are
+// low byte first.
 ghost use Rattle.std.specs.Prelude.{◌≡◌, ℕ, ◌+◌, ◌*◌, ◌^◌, ◌<◌, List};
 ghost use Rattle.std.proofs.Common.{rules};
-ghost use Rattle.plan.specs.Rules.{longest};
-ghost use Rattle.plan.specs.Format.{channel_at, channels_from, counts_of, no_channel, no_partition, no_slot, partition_at, plan_of, plan_size, rows, slot_at, slots_from};
+ghost use Rattle.plan.specs.Format.{channel_at, channels_from, counts_of, longest, no_channel, no_partition, no_slot, partition_at, plan_of, plan_size, rows, slot_at, slots_from};
 
 use crate::model::*;
 use std::array;
@@ -37,12 +36,17 @@ trait Row: Copy + Default {
 pub fn longest() -> usize
     ensures { result ≡ longest }
 {
-    HEADER + 255 * (Partition::SIZE + Slot::SIZE + Channel::SIZE) + 1
+    let fullest = Counts {
+        partitions: u8::MAX,
+        slots: u8::MAX,
+        channels: u8::MAX,
+    };
+    fullest.plan_size() + 1
 }
 
 impl Counts {
     // The counts in the first three bytes, whatever they are.
-    pub fn read(bytes: &[u8]) -> Counts
+    fn read(bytes: &[u8]) -> Counts
         ensures { result ≡ counts_of bytes.now }
     {
         Counts {

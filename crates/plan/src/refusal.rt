@@ -31,7 +31,7 @@ pub enum Refusal {
     FrameShared(u8),
     // a partition's start address is not a multiple of 4
     StartMisaligned(u8),
-    // the budget is outside of its range or not ample
+    // the budget is outside of its range or does not cover every switch
     BudgetRule,
     // fewer frames are lent than are needed
     FramesMissing,

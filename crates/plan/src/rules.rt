@@ -1,12 +1,10 @@
-// The rules of a plan that need no memory, and the parser, which refuses with the first that is broken.
+// The rules of a plan that need no memory.
 ghost use Rattle.std.specs.Prelude.{◌≡◌};
-ghost use Rattle.words.specs.First.{first, most, unless};
-ghost use Rattle.plan.specs.Rules.{ample, budget_fault, channel, channel_fault, channels_out, count_fault, fault, parsed, partition, slot, slot_fault, start_fault};
-ghost use Rattle.plan.specs.Lawful.{Judges};
+ghost use Rattle.words.specs.First.{first, unless};
+ghost use Rattle.plan.specs.Rules.{budget_fault, channel, channel_fault, count_fault, partition, slot, slot_fault, start_fault};
 
 use crate::model::*;
 use crate::refusal::{Count, Refusal};
-use words::costs;
 
 const SHORTEST_SLOT: u32 = 128;
 
@@ -113,66 +111,15 @@ impl Plan {
         (0..self.counts.partitions).try_for_each(|k| self.check_start(k))
     }
 
-    // How many channels lead out of a partition.
-    pub fn channels_out(&self, partition: u8) -> u8
-        ensures { result ≡ channels_out self.now partition }
-    {
-        (0..self.counts.channels)
-            .filter(|k| self.channel(usize::from(*k)).sender.partition == partition)
-            .count() as u8
-    }
-
-    fn most_channels_out(&self) -> u8
-        ensures { result ≡ most (channels_out self.now) self.now.counts.partitions }
-    {
-        (0..self.counts.partitions)
-            .map(|who| self.channels_out(who))
-            .max()
-            .unwrap_or(0)
-    }
-
-    // The least budget that covers every switch: the rest of the last instruction, the write-back of every line, and the
-    // messages of the partition with the most channels.
-    pub(crate) fn ample_budget(&self) -> u32
-        ensures { result ≡ ample self.now }
-    {
-        costs::SWITCH + costs::MESSAGE * u32::from(self.most_channels_out())
-    }
-
-    // Whether the budget is in its range and ample.
+    // Whether the budget is in its range and covers every switch.
     pub fn check_budget(&self) -> Result<(), Refusal>
         ensures { result ≡ unless (budget_fault self.now) tt }
     {
         if !(LEAST_BUDGET..=MOST_BUDGET).contains(&self.budget)
-            || self.budget < self.ample_budget()
+            || self.budget < self.required_budget()
         {
             return Err(Refusal::BudgetRule);
         }
         Ok(())
     }
-
-    // Whether the plan, read from these bytes, keeps every rule that needs no memory, asked in the order of their numbers.
-    #[tactic(auto, unfolding(crate::specs::Rules::fault))]
-    fn check(&self, bytes: &[u8]) -> Result<(), Refusal>
-        ensures { result ≡ unless (fault bytes.now self.now) tt }
-    {
-        self.check_whole(bytes)?;
-        self.counts.check()?;
-        self.check_slots()?;
-        self.check_channels()?;
-        self.check_starts()?;
-        self.check_budget()?;
-        self.check_end(bytes)
-    }
-}
-
-// The plan that the bytes say, or the refusal of the first rule that they break.
-#[tactic(auto, unfolding(crate::specs::Rules::parsed))]
-pub fn parse(bytes: &[u8]) -> Result<Plan, Refusal>
-    ensures value { result ≡ parsed bytes.now }
-    ensures verdict { Judges bytes.now result }
-{
-    let plan = Plan::read(bytes);
-    plan.check(bytes)?;
-    Ok(plan)
 }

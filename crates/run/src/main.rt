@@ -7,8 +7,8 @@ use console::problem::{Problem, Program};
 use console::slots::Slots;
 use isa::decoder::Decoder;
 use kernel::report::Report;
-use separation::face::Kernel;
 use separation::run::run as run_slots;
+use separation::supervisor::Supervisor;
 use std::io::{BufWriter, Write};
 use std::process::ExitCode;
 use std::{io, iter};
@@ -44,11 +44,11 @@ fn run(rt: &HostRuntime) -> Result<(), Problem> {
     let files = Files::read(rt, plan, image)?;
     let mut opened = admission::open(rt.alloc(), &files.plan, &files.image)??;
     if last_only {
-        let finished = run_slots(&files.plan, &mut opened.words, count)?;
+        let finished = run_slots(opened.accepted, &mut opened.words, count);
         return Ok(print_last(rt, finished.last)?);
     }
-    let mut kernel = Kernel::start(&files.plan, &opened.words)?;
-    Ok(print_slots(rt, &mut kernel, &mut opened.words, count)?)
+    let mut supervisor = Supervisor::start(opened.accepted);
+    Ok(print_slots(rt, &mut supervisor, &mut opened.words, count)?)
 }
 
 fn print_last(rt: &HostRuntime, last: Option<Report>) -> io::Result<()> {
@@ -60,13 +60,13 @@ fn print_last(rt: &HostRuntime, last: Option<Report>) -> io::Result<()> {
 
 fn print_slots(
     rt: &HostRuntime,
-    kernel: &mut Kernel,
+    supervisor: &mut Supervisor,
     lent: &mut [u32],
     count: u32,
 ) -> io::Result<()> {
     let mut out = BufWriter::new(rt.alloc(), rt.stdout())?;
     let mut decoder = Decoder::new();
-    let reports = iter::from_fn(|| kernel.run_slot(lent, &mut decoder));
+    let reports = iter::from_fn(|| supervisor.run_slot(lent, &mut decoder));
     for report in reports.take(count as usize) {
         writeln!(out, "{report}")?;
     }

@@ -61,10 +61,10 @@ module _ (bytes ws : List ℕ) where
   pages_none h = below_none (ends_refusal ws (plan_of bytes)) (plan_of bytes).counts.channels (λ k l. rw (fit_none ws (plan_of bytes) k (h k l)) refl)
 
   pub root_none : (k : ℕ) → RootFits ws (plan_of bytes) k → root_refusal ws (plan_of bytes) k ≡ None
-  root_none k h = rw ((root_decides bytes ws (plan_of bytes) k).1 h) refl
+  root_none k h = rw ((root_decides ws (plan_of bytes) k).1 h) refl
 
   pub root_some : (k : ℕ) → (RootFits ws (plan_of bytes) k → ⊥) → root_refusal ws (plan_of bytes) k ≡ Some (RootRule k)
-  root_some k h = rw (refuted (root_kept ws (plan_of bytes) k) (root_decides bytes ws (plan_of bytes) k) h) refl
+  root_some k h = rw (refuted (root_kept ws (plan_of bytes) k) (root_decides ws (plan_of bytes) k) h) refl
 
   pub roots_none : ((k : ℕ) → k < (plan_of bytes).counts.partitions → RootFits ws (plan_of bytes) k) → first (root_refusal ws (plan_of bytes)) (plan_of bytes).counts.partitions ≡ None
   roots_none h = below_none (root_refusal ws (plan_of bytes)) (plan_of bytes).counts.partitions (λ k l. root_none k (h k l))
@@ -84,6 +84,9 @@ module _ (bytes ws : List ℕ) where
 
     pub missing_some : (AllLent ws (plan_of bytes) → ⊥) → lent_refusal ws (plan_of bytes) ≡ Some FramesMissing
     missing_some h = rw (refuted (lent_kept ws (plan_of bytes)) (lent_decides ws (plan_of bytes) ok) h) refl
+
+    pub missing_none : AllLent ws (plan_of bytes) → lent_refusal ws (plan_of bytes) ≡ None
+    missing_none h = rw ((lent_decides ws (plan_of bytes) ok).1 h) refl
 
 module _ (ws : List ℕ) (p : Plan) where
   -- a page that may be written receives on nothing

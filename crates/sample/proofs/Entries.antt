@@ -1,5 +1,5 @@
 -- The flags of an entry do not depend on the frame that it names.
-use Rattle.std.proofs.Common.{◌≡◌, ℕ, ◌+◌, ◌*◌, ◌/◌, ◌%◌, ◌<◌, true, false, eqb, refl, ap, inl, arith}
+use Rattle.std.proofs.Common.{◌≡◌, ℕ, ◌+◌, ◌*◌, ◌/◌, ◌%◌, ◌<◌, true, false, eqb, refl, ap, ◌∙◌, inl, arith}
 use Rattle.paging.specs.Entries.{flag, frame_of, is_leaf, is_valid}
 use Rattle.paging.specs.Mapping.{LeafEntry, Pointer}
 use Rattle.sample.specs.Memory.{points_at, reads, runs, writes}
@@ -52,47 +52,30 @@ pointer t = record {
   frame = frame_at t 1 (omega arith);
 }
 
-pub runs_leaf : (f : ℕ) → LeafEntry (runs f) (record { frame = f; readable = true; writable = false; executable = true })
-unfolding flag
-runs_leaf f = record {
-  valid = flag_0 f 0xDB;
-  user = flag_4 f 0xDB;
-  accessed = flag_6 f 0xDB;
-  dirty = flag_7 f 0xDB;
-  readable = flag_1 f 0xDB;
-  writable = flag_2 f 0xDB;
-  executable = flag_3 f 0xDB;
-  frame = frame_at f 0xDB (omega arith);
+-- an entry of a frame with V, R, U, A and D
+leaf_with : (f low : ℕ) → low < 1024 → flag low 0 ≡ true → flag low 1 ≡ true → flag low 4 ≡ true → flag low 6 ≡ true → flag low 7 ≡ true →
+    LeafEntry (f * 1024 + low) (record { frame = f; readable = true; writable = flag low 2; executable = flag low 3 })
+leaf_with f low l v r u a d = record {
+  valid = flag_0 f low ∙ v;
+  user = flag_4 f low ∙ u;
+  accessed = flag_6 f low ∙ a;
+  dirty = flag_7 f low ∙ d;
+  readable = flag_1 f low ∙ r;
+  writable = flag_2 f low;
+  executable = flag_3 f low;
+  frame = frame_at f low l;
   not_nothing = inl refl;
   not_write_only = λ w. refl;
 }
+
+pub runs_leaf : (f : ℕ) → LeafEntry (runs f) (record { frame = f; readable = true; writable = false; executable = true })
+unfolding flag
+runs_leaf f = leaf_with f 0xDB (omega arith) refl refl refl refl refl
 
 pub writes_leaf : (f : ℕ) → LeafEntry (writes f) (record { frame = f; readable = true; writable = true; executable = false })
 unfolding flag
-writes_leaf f = record {
-  valid = flag_0 f 0xD7;
-  user = flag_4 f 0xD7;
-  accessed = flag_6 f 0xD7;
-  dirty = flag_7 f 0xD7;
-  readable = flag_1 f 0xD7;
-  writable = flag_2 f 0xD7;
-  executable = flag_3 f 0xD7;
-  frame = frame_at f 0xD7 (omega arith);
-  not_nothing = inl refl;
-  not_write_only = λ w. refl;
-}
+writes_leaf f = leaf_with f 0xD7 (omega arith) refl refl refl refl refl
 
 pub reads_leaf : (f : ℕ) → LeafEntry (reads f) (record { frame = f; readable = true; writable = false; executable = false })
 unfolding flag
-reads_leaf f = record {
-  valid = flag_0 f 0xD3;
-  user = flag_4 f 0xD3;
-  accessed = flag_6 f 0xD3;
-  dirty = flag_7 f 0xD3;
-  readable = flag_1 f 0xD3;
-  writable = flag_2 f 0xD3;
-  executable = flag_3 f 0xD3;
-  frame = frame_at f 0xD3 (omega arith);
-  not_nothing = inl refl;
-  not_write_only = λ w. refl;
-}
+reads_leaf f = leaf_with f 0xD3 (omega arith) refl refl refl refl refl

@@ -1,28 +1,25 @@
 -- The words of the sample's memory, and what follows for its page tables.
-use Rattle.std.proofs.Common.{◌≡◌, ℕ, zero, suc, ◌+◌, ◌*◌, ◌/◌, ◌%◌, ◌<◌, ◌≤◌, true, false, ◌≢◌, ◌⊎◌, length, Ok, sym, refl, ap, ◌∙◌, subst, arith}
+use Rattle.std.proofs.Common.{◌≡◌, ℕ, zero, suc, ◌+◌, ◌*◌, ◌/◌, ◌%◌, ◌<◌, ◌≤◌, true, false, ◌≢◌, ◌⊎◌, length, sym, refl, ap, ◌∙◌, subst, arith}
 use Rattle.std.proofs.lemmas.List.FromFn.{get_or-map-range_with_len, length-map-range_with_len}
 use Rattle.std.proofs.lemmas.Bool.{eq-eqb, ne_eqb, true≢false}
-use Rattle.words.specs.First.{count, first, most}
+use Rattle.words.specs.First.{first, most}
 use Rattle.words.specs.Frames.{word}
 use Rattle.paging.specs.Entries.{flag}
 use Rattle.paging.specs.Mapping.{InMemory, Pointer}
 use Rattle.paging.specs.Tables.{KernelFrame, Names}
+use Rattle.plan.specs.Switch.{messages}
 use Rattle.plan.specs.Format.{plan_of, rows}
-use Rattle.plan.specs.Lawful.{Lawful}
-use Rattle.plan.specs.Rules.{fault, parsed}
-use Rattle.plan.proofs.Judged.{parsed_lawful}
+use Rattle.plan.specs.Lawful.{PlanLawful}
+use Rattle.plan.proofs.Decides.{kept_lawful}
 use Rattle.checker.specs.Lawful.{Formed, Joins, Leads, Lent, PagesFit, RootFits, root}
 use Rattle.sample.specs.Memory.{Layout, memory, root_entry, table_entry, two, word_in, reads, runs, writes}
 use Rattle.sample.specs.Verdicts.{Free}
 use Rattle.sample.proofs.Entries.{pointer, reads_leaf, runs_leaf, writes_leaf}
 use Rattle.sample.proofs.Tables.{its_form, its_frames, its_kernel, leads_16, leads_17, names_a}
 
-accepted : parsed two ≡ Ok (plan_of two)
-unfolding first count most plan_of rows parsed fault
-accepted = refl
-
-pub plan_lawful : Lawful two
-plan_lawful = (parsed_lawful two (plan_of two) accepted).0
+pub plan_lawful : PlanLawful two
+unfolding first most messages plan_of rows
+plan_lawful = kept_lawful two refl refl refl refl refl refl refl
 
 own_root : (j : ℕ) → j < 1 → root (plan_of two) j ≢ 3
 unfolding plan_of rows

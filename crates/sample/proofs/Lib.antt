@@ -7,3 +7,4 @@ pub mod Asked
 pub mod Refused
 pub mod Unjoined
 pub mod Pair
+pub mod OwnRules

@@ -1,10 +1,11 @@
 -- The sample with one rule broken, and what the checker answers.
 use Rattle.std.proofs.Common.{◌≡◌, ℕ, zero, suc, ◌<◌, ◌≤◌, true, false, List, Some, None, Err, sym, refl, ap, subst, inl, inr, arith}
 use Rattle.std.proofs.lemmas.Bool.{true≢false}
-use Rattle.words.specs.First.{count, first, most}
+use Rattle.words.specs.First.{first, most}
 use Rattle.words.proofs.First.{any_here, below_none, first_more, first_none, first_stays}
 use Rattle.paging.specs.Entries.{flag}
 use Rattle.paging.specs.Tables.{KernelFrame, Names}
+use Rattle.plan.specs.Switch.{messages}
 use Rattle.plan.specs.declared.model.Plan.{Plan}
 use Rattle.plan.specs.declared.refusal.Refusal.{Refusal}
 use Rattle.plan.specs.declared.refusal.Refusal.TheVariants.{ChannelPage, FrameShared, FramesMissing, RootRule, TableMalformed}
@@ -28,41 +29,35 @@ use Rattle.sample.proofs.Laid.{Tabled, formed, formed_0, held_0, leads_first_16,
 use Rattle.sample.proofs.Verdicts.{Spread, differ, none_shared}
 
 pub here_tabled : Tabled here
-here_tabled = record { enough = omega arith; table = (omega arith, (λ e. omega arith), omega arith); below = omega arith; mailbox = omega arith }
+here_tabled = grind arith
 
 crowded_tabled : Tabled crowded
-crowded_tabled = record { enough = omega arith; table = (omega arith, (λ e. omega arith), omega arith); below = omega arith; mailbox = omega arith }
+crowded_tabled = grind arith
 
 past_tabled : Tabled past
-past_tabled = record { enough = omega arith; table = (omega arith, (λ e. omega arith), omega arith); below = omega arith; mailbox = omega arith }
+past_tabled = grind arith
 
 shared_tabled : Tabled shared
-shared_tabled = record { enough = omega arith; table = (omega arith, (λ e. omega arith), omega arith); below = omega arith; mailbox = omega arith }
+shared_tabled = grind arith
 
 own_tabled : Tabled own
-own_tabled = record { enough = omega arith; table = (omega arith, (λ e. omega arith), omega arith); below = omega arith; mailbox = omega arith }
+own_tabled = grind arith
 
 short_spread : Spread short
-short_spread = record {
-  tabled = record { enough = omega arith; table = (omega arith, (λ e. omega arith), omega arith); below = omega arith; mailbox = omega arith };
-  code = (omega arith, λ e. omega arith);
-  mailbox = (omega arith, λ e. omega arith);
-  code_apart = λ e. omega arith;
-  mailbox_apart = λ e. omega arith;
-}
+short_spread = grind arith
 
 -- the plan's own rules are kept in each case, so a refusal is that of the first rule on frames
 module _ (ws : List ℕ) (e : Refusal) where
   refused_two : faults two ws ≡ Some e → checked two ws ≡ Err e
-  unfolding first count most plan_of rows
+  unfolding first most messages plan_of rows
   refused_two = refused two ws refl refl refl refl refl refl refl e
 
   refused_turned : faults turned ws ≡ Some e → checked turned ws ≡ Err e
-  unfolding first count most plan_of rows
+  unfolding first most messages plan_of rows
   refused_turned = refused turned ws refl refl refl refl refl refl refl e
 
   refused_one_root : faults one_root ws ≡ Some e → checked one_root ws ≡ Err e
-  unfolding first count most plan_of rows
+  unfolding first most messages plan_of rows
   refused_one_root = refused one_root ws refl refl refl refl refl refl refl e
 
 module _ (content : ℕ → ℕ → ℕ) where

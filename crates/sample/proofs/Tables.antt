@@ -98,32 +98,23 @@ module _ (ws : List ℕ) (r t a b la lb : ℕ)
   }
 
   -- pages 16 and 17 lead to the leaves that their entries are
-  pub leads_16 : InMemory ws r → InMemory ws t → (leaf : Leaf) → LeafEntry (a * 1024 + la) leaf → leaf.frame < 256 → Leads ws r 16 leaf
-  leads_16 root_there table_there leaf is below = record {
+  leads_at : (low e : ℕ) → low < 1024 → word ws t low ≡ e → InMemory ws r → InMemory ws t → (leaf : Leaf) → LeafEntry e leaf → leaf.frame < 256 → Leads ws r low leaf
+  leads_at low e small at root_there table_there leaf is below = record {
     high = 0;
-    low = 16;
+    low = low;
     table = t;
     high_below = omega arith;
-    low_below = omega arith;
-    number = refl;
+    low_below = small;
+    number = omega arith;
     points = its_pointer;
-    leads = subst (λ e. LeafEntry e leaf) (sym table_16) is;
+    leads = subst (λ e. LeafEntry e leaf) (sym at) is;
     root_there = root_there;
     table_there = table_there;
     frame_below = below;
   }
 
+  pub leads_16 : InMemory ws r → InMemory ws t → (leaf : Leaf) → LeafEntry (a * 1024 + la) leaf → leaf.frame < 256 → Leads ws r 16 leaf
+  leads_16 = leads_at 16 (a * 1024 + la) (omega arith) table_16
+
   pub leads_17 : InMemory ws r → InMemory ws t → (leaf : Leaf) → LeafEntry (b * 1024 + lb) leaf → leaf.frame < 256 → Leads ws r 17 leaf
-  leads_17 root_there table_there leaf is below = record {
-    high = 0;
-    low = 17;
-    table = t;
-    high_below = omega arith;
-    low_below = omega arith;
-    number = refl;
-    points = its_pointer;
-    leads = subst (λ e. LeafEntry e leaf) (sym table_17) is;
-    root_there = root_there;
-    table_there = table_there;
-    frame_below = below;
-  }
+  leads_17 = leads_at 17 (b * 1024 + lb) (omega arith) table_17

@@ -1,13 +1,16 @@
 -- The sample's plan without its channel, or with two, and what the checker answers.
 use Rattle.std.proofs.Common.{◌≡◌, ℕ, zero, suc, ◌/◌, ◌<◌, ◌≤◌, true, List, length, Some, None, Err, add-zero, sym, refl, ap, ◌∙◌, subst, inl, inr, arith}
 use Rattle.std.proofs.lemmas.Bool.{ne_eqb, true≢false}
-use Rattle.words.specs.First.{count, first, most}
+use Rattle.words.specs.First.{first, most}
+use Rattle.words.specs.Bytes.{number}
 use Rattle.words.specs.Frames.{word}
 use Rattle.words.proofs.First.{below_none, first_more, first_none, first_stays}
 use Rattle.paging.specs.Entries.{flag, is_valid}
+use Rattle.plan.specs.Switch.{messages}
 use Rattle.plan.specs.declared.refusal.Refusal.{Refusal}
 use Rattle.plan.specs.declared.refusal.Refusal.TheVariants.{ChannelPage, FrameShared, FramesMissing, TableMalformed}
 use Rattle.plan.specs.Format.{plan_of, rows}
+use Rattle.plan.specs.Written.{in_bytes}
 use Rattle.checker.specs.declared.fault.Fault.{Fault}
 use Rattle.checker.specs.declared.fault.Fault.TheVariants.{Broken, NotLent}
 use Rattle.checker.specs.Checked.{checked}
@@ -26,13 +29,17 @@ use Rattle.sample.proofs.Refused.{apart_0, both_name, here_tabled, mailbox_missi
 use Rattle.sample.proofs.Tables.{not_valid}
 
 refused_forked : (ws : List ℕ) (e : Refusal) → faults forked ws ≡ Some e → checked forked ws ≡ Err e
-unfolding first count most plan_of rows
+unfolding first most messages plan_of rows
 refused_forked ws e = refused forked ws refl refl refl refl refl refl refl e
 
+root_second : (r : ℕ) → number (in_bytes 2 r) 0 2 ≡ r → root (plan_of (unjoined r)) 1 ≡ r
+unfolding plan_of rows
+root_second r e = e
+
 -- without a channel, the rules on page tables and what they share decide
-module _ (r : ℕ) (ws : List ℕ) where
+module _ (r : ℕ) (ws : List ℕ) (is : root (plan_of (unjoined r)) 1 ≡ r) where
   refused_unjoined : (e : Refusal) → faults (unjoined r) ws ≡ Some e → checked (unjoined r) ws ≡ Err e
-  unfolding first count most plan_of rows
+  unfolding first most messages plan_of rows
   refused_unjoined e = refused (unjoined r) ws refl refl refl refl refl refl refl e
 
   no_pages : first (ends_refusal ws (plan_of (unjoined r))) (plan_of (unjoined r)).counts.channels ≡ None
@@ -41,24 +48,24 @@ module _ (r : ℕ) (ws : List ℕ) where
 
   own_root : 0 < r → (j : ℕ) → j < 1 → root (plan_of (unjoined r)) j ≡ root (plan_of (unjoined r)) 1 → ⊥
   unfolding plan_of rows
-  own_root some zero b e = omega (arith, some, e)
+  own_root some zero b e = omega (arith, some, e, is)
   own_root some (suc j) b e = omega arith
 
   at_second : (f : Fault) → root_fault ws r ≡ Some f → table_refusal ws (plan_of (unjoined r)) 1 ≡ Some (refused_with (TableMalformed 1) f)
   unfolding plan_of rows
-  at_second f e = rw (add-zero r) (ap (refused_by (TableMalformed 1)) e)
+  at_second f e = rw is (ap (refused_by (TableMalformed 1)) e)
 
   both_formed : Formed ws 0 → Formed ws r → (k : ℕ) → k < (plan_of (unjoined r)).counts.partitions → Formed ws (root (plan_of (unjoined r)) k)
   unfolding plan_of rows
   both_formed first second zero g = first
-  both_formed first second (suc zero) g = rw (add-zero r) second
+  both_formed first second (suc zero) g = subst (Formed ws) (sym is) second
   both_formed first second (suc (suc k)) g = absurd (omega arith)
 
   module _ (some : 0 < r) (below : r < 256) (few : length ws / 1024 ≤ 256) where
     root_fits : (k : ℕ) → k < (plan_of (unjoined r)).counts.partitions → RootFits ws (plan_of (unjoined r)) k
     unfolding plan_of rows
     root_fits zero g = record { few = few; below = omega arith; own = λ j b e. omega arith }
-    root_fits (suc zero) g = record { few = few; below = omega arith; own = own_root some }
+    root_fits (suc zero) g = record { few = few; below = omega (arith, is); own = own_root some }
     root_fits (suc (suc k)) g = absurd (omega arith)
 
     -- the first partition's page tables are well formed, and the second's are not, or cannot be read
@@ -91,7 +98,7 @@ module _ (content : ℕ → ℕ → ℕ) where
       let size = long tableless content in
       let unread : root_fault ws 3 ≡ Some NotLent =
       unread_unlent ws 3 (TablesUnread.no_table 0 8 (omega arith) (second_points tableless content (omega arith)) (omega arith) (λ lent. omega (arith, size, lent)) (λ j b. absurd (omega arith))) in
-      tables_decide 3 ws (omega arith) (omega arith) (few_of tableless (omega arith)) FramesMissing (formed_0 tableless content (omega arith)) (at_second 3 ws NotLent unread)
+      tables_decide 3 ws (root_second 3 refl) (omega arith) (omega arith) (few_of tableless (omega arith)) FramesMissing (formed_0 tableless content (omega arith)) (at_second 3 ws (root_second 3 refl) NotLent unread)
 
   -- the first table has no valid entry before its leaf at 16
   none_before : (j : ℕ) → j < 16 → entry_fault_at (memory here content) 1 j ≡ None
@@ -109,7 +116,7 @@ module _ (content : ℕ → ℕ → ℕ) where
       let fault : root_fault ws 1 ≡ Some Broken =
       rw ((lent_tells ws 1).1 (lent_at here content 1 (omega arith)))
       (first_stays (entry_fault_at ws 1) 16 1024 Broken (omega arith) (below_none (entry_fault_at ws 1) 16 none_before) leaf_at_16) in
-      tables_decide 1 ws (omega arith) (omega arith) (few_of here (omega arith)) (TableMalformed 1) (formed_0 here content (omega arith)) (at_second 1 ws Broken fault)
+      tables_decide 1 ws (root_second 1 refl) (omega arith) (omega arith) (few_of here (omega arith)) (TableMalformed 1) (formed_0 here content (omega arith)) (at_second 1 ws (root_second 1 refl) Broken fault)
 
   module _ (zeros : (k : ℕ) → content 2 k ≡ 0) where
     nothing_in_2 : (k : ℕ) → k < 1024 → is_valid (word (memory here content) 2 k) ≡ true → ⊥
@@ -129,7 +136,7 @@ module _ (content : ℕ → ℕ → ℕ) where
     unfolding plan_of rows
     root_named =
         let ws = memory here content in
-        sharing_decides 2 ws (omega arith) (omega arith) (few_of here (omega arith)) (formed_0 here content (omega arith)) formed_2
+        sharing_decides 2 ws (root_second 2 refl) (omega arith) (omega arith) (few_of here (omega arith)) (formed_0 here content (omega arith)) formed_2
         (apart_0 content here (omega arith) (plan_of (unjoined 2)) refl)
         (λ apart. apart 0 (omega arith) (inr (2, names_2 here content (omega arith), inr (inl refl))))
 

@@ -1,8 +1,8 @@
 -- The sample is accepted in every layout that fits.
 use Rattle.std.proofs.Common.{◌≡◌, ℕ, zero, suc, ◌<◌, ◌≢◌, ◌⊎◌, get_or, sym, refl, ◌∙◌, inl, inr, arith}
-use Rattle.words.specs.First.{count, first, most}
+use Rattle.words.specs.First.{first, most}
 use Rattle.plan.specs.Format.{plan_of, rows}
-use Rattle.plan.specs.Rules.{ample}
+use Rattle.plan.specs.Switch.{messages, required_budget}
 use Rattle.plan.proofs.Rows.{rows_at}
 use Rattle.checker.specs.Checked.{accepted}
 use Rattle.checker.specs.Found.{Lawful}
@@ -56,10 +56,10 @@ module _ (l : Layout) (content : ℕ → ℕ → ℕ) (h : Fits l) where
   pub tabled : Tabled l
   tabled = record { enough = h.enough; table = h.table; below = omega (arith, h.table.2, h.few); mailbox = omega (arith, h.mailbox.2, h.few) }
 
-  spread : Spread l
+  pub spread : Spread l
   spread = record { tabled = tabled; code = (h.code.0, h.code.1); mailbox = (h.mailbox.0, h.mailbox.1); code_apart = h.code_apart; mailbox_apart = h.mailbox_apart }
 
-  all_lent : AllLent (memory l content) (plan_of two)
+  pub all_lent : AllLent (memory l content) (plan_of two)
   unfolding plan_of rows
   all_lent zero f g n = elim (named_0 l content h.enough f n) [ inl e ↦ lent_at l content f (omega (arith, h.enough)) | inr e ↦ lent_at l content f (omega (arith, h.enough)) ]
   all_lent (suc zero) f g n = elim (named_1 l content tabled f n) [ inl e ↦ lent_at l content f (omega (arith, h.code.2)) | inr e ↦ lent_at l content f (omega (arith, h.mailbox.2)) ]
@@ -88,29 +88,13 @@ pub accepts : Accepts
 accepts l h content = stands l content h
 
 pub here_fits : Fits here
-here_fits = record {
-  few = omega arith;
-  enough = omega arith;
-  table = (omega arith, (λ e. omega arith), omega arith);
-  code = (omega arith, (λ e. omega arith), omega arith);
-  mailbox = (omega arith, (λ e. omega arith), omega arith);
-  code_apart = λ e. omega arith;
-  mailbox_apart = λ e. omega arith;
-}
+here_fits = grind arith
 
 pub there_fits : Fits there
-there_fits = record {
-  few = omega arith;
-  enough = omega arith;
-  table = (omega arith, (λ e. omega arith), omega arith);
-  code = (omega arith, (λ e. omega arith), omega arith);
-  mailbox = (omega arith, (λ e. omega arith), omega arith);
-  code_apart = λ e. omega arith;
-  mailbox_apart = λ e. omega arith;
-}
+there_fits = grind arith
 
-pub budget : ample (plan_of two) ≡ 1754
-unfolding first count most plan_of rows
+pub budget : required_budget (plan_of two) ≡ 1754
+unfolding first most messages plan_of rows
 budget = refl
 
 pub examples : Examples

@@ -2,18 +2,21 @@
 -- frames but the tables hold, is left open.
 use Rattle.std.specs.Prelude.{ℕ, ◌+◌, ◌*◌, ◌/◌, ◌%◌, cond, List, [], ◌∷◌, map, ◌==◌}
 use Rattle.std.specs.List.{range_with_len}
+use Rattle.plan.specs.declared.model.Channel.{Channel}
+use Rattle.plan.specs.Written.{a_channel, a_partition, a_slot, written}
 
--- a plan of two partitions that start at 00010000, the first with root 0, slots of 200 and 128 cycles, and a budget of 1,754; left open are
--- the root of the second, and of a channel from page 17 its sender, its receiver and the receiver's page
+-- a plan of two partitions with slots, the first with root 0, the second starting at 00010000 and with a slot of 128 cycles; left open are the
+-- budget, the root of the second, where the first one starts, the length of its slot, and the channels
+abbrev pub laid : ℕ → ℕ → ℕ → ℕ → List Channel → List ℕ
+laid budget root start length channels = written budget (a_partition 0 start ∷ a_partition root 0x10000 ∷ []) (a_slot 0 length ∷ a_slot 1 128 ∷ []) channels
+
+-- the first one starts at 00010000 too, with a slot of 200 cycles
+abbrev pub with_channels : ℕ → ℕ → List Channel → List ℕ
+with_channels budget root channels = laid budget root 0x10000 200 channels
+
+-- with a budget of 1,754, and a channel from page 17; left open are the root of the second, the channel's sender, its receiver and the receiver's page
 abbrev pub planned : ℕ → ℕ → ℕ → ℕ → List ℕ
-planned root sender receiver page =
-    2 ∷ 2 ∷ 1 ∷ 0xda ∷ 6 ∷ 0 ∷ 0
-    ∷ 0 ∷ 0 ∷ 0 ∷ 0 ∷ 1 ∷ 0
-    ∷ root ∷ 0 ∷ 0 ∷ 0 ∷ 1 ∷ 0
-    ∷ 0 ∷ 200 ∷ 0 ∷ 0 ∷ 0
-    ∷ 1 ∷ 128 ∷ 0 ∷ 0 ∷ 0
-    ∷ sender ∷ receiver ∷ 17 ∷ 0 ∷ 0 ∷ 0 ∷ page ∷ 0 ∷ 0 ∷ 0
-    ∷ []
+planned root sender receiver page = with_channels 1754 root (a_channel sender 17 receiver page ∷ [])
 
 -- roots 0 and 3, and a channel from page 17 of the first to page 17 of the second
 abbrev pub two : List ℕ

@@ -1,13 +1,14 @@
 -- What the checker says of the plan and its memory.
-use Rattle.std.specs.Prelude.{◌≡◌, ℕ, ◌<◌, ◌≤◌, ◌≢◌, List, [], ◌∷◌, ◌++◌, take, Ok, Err, slice_set}
+use Rattle.std.specs.Prelude.{◌≡◌, ℕ, ◌<◌, ◌≤◌, ◌≢◌, List, [], ◌∷◌, Ok, Err}
 use Rattle.words.specs.Frames.{word}
 use Rattle.paging.specs.Tables.{Owns}
 use Rattle.plan.specs.declared.refusal.Refusal.TheVariants.{ChannelPage, FrameShared, FramesMissing, RootRule, TableMalformed}
 use Rattle.plan.specs.Format.{plan_of}
-use Rattle.plan.specs.Rules.{ample}
+use Rattle.plan.specs.Switch.{required_budget}
+use Rattle.plan.specs.Written.{a_channel}
 use Rattle.checker.specs.Checked.{accepted, checked}
 use Rattle.checker.specs.Pages.{ends_at}
-use Rattle.sample.specs.Memory.{Layout, memory, planned, two}
+use Rattle.sample.specs.Memory.{Layout, memory, planned, two, with_channels}
 
 -- a lent frame that is none of the first partition's, nor the second's root
 abbrev pub Free : Layout → ℕ → Type 0
@@ -39,9 +40,9 @@ here = record { table = 4; code = 5; mailbox = 7; frames = 8 }
 abbrev pub there : Layout
 there = record { table = 5; code = 4; mailbox = 8; frames = 9 }
 
--- and the plan's budget is the least that is ample
+-- and the plan's budget is the least that its switches need
 pub record Examples : Type 0 where
-  pub budget : ample (plan_of two) ≡ 1754
+  pub budget : required_budget (plan_of two) ≡ 1754
   pub one : (content : ℕ → ℕ → ℕ) → Stands here content
   pub other : (content : ℕ → ℕ → ℕ) → Stands there content
 
@@ -90,11 +91,11 @@ own = record { table = 4; code = 4; mailbox = 7; frames = 8 }
 
 -- the plan without its channel, and with another root of the second
 abbrev pub unjoined : ℕ → List ℕ
-unjoined root = slice_set (take 29 (planned root 0 1 17)) 2 0
+unjoined root = with_channels 1754 root []
 
 -- the plan with a budget for two messages, and a second channel from page 17 of the first, to page 16 of the second
 abbrev pub forked : List ℕ
-forked = slice_set (slice_set two 2 2) 4 10 ++ (0 ∷ 1 ∷ 17 ∷ 0 ∷ 0 ∷ 0 ∷ 16 ∷ 0 ∷ 0 ∷ 0 ∷ [])
+forked = with_channels 2778 3 (a_channel 0 17 1 17 ∷ a_channel 0 17 1 16 ∷ [])
 
 -- each is refused by its rule, at its place
 pub record Refuses : Type 0 where

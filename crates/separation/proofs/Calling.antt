@@ -1,20 +1,18 @@
 -- What the calls answer is what they promise.
-use Rattle.std.proofs.Common.{◌≡◌, ℕ, zero, suc, ◌+◌, ◌^◌, ◌<◌, ◌≤◌, List, Ok, Err, Option, Result, sym, refl, ap, ◌∙◌, subst, add-one, arith, MatchResult}
-use Rattle.plan.specs.declared.refusal.Refusal.{Refusal}
+use Rattle.std.proofs.Common.{◌≡◌, ℕ, zero, suc, ◌+◌, ◌^◌, ◌<◌, ◌≤◌, List, None, Ok, Option, sym, refl, ap, ◌∙◌, subst, add-one, arith}
 use Rattle.plan.specs.Timetable.{begins}
 use Rattle.plan.proofs.Rows.{length_rows}
 use Rattle.checker.specs.declared.Accepted.{Accepted}
 use Rattle.checker.specs.Checked.{checked}
-use Rattle.checker.specs.Found.{FirstFound, Sound}
-use Rattle.checker.proofs.Judged.{accepted_sound, judged, lawful_accepted}
+use Rattle.checker.proofs.Judged.{accepted_sound}
 use Rattle.kernel.specs.declared.machine.Machine.{Machine}
 use Rattle.kernel.specs.declared.report.Report.{Report}
 use Rattle.hart.specs.Execution.{fresh}
 use Rattle.kernel.specs.Machine.{System, after_slot, after_slots, context_of, fresh_at, loaded, system}
 use Rattle.kernel.specs.Reports.{slot_report}
-use Rattle.separation.specs.declared.face.Kernel.{Kernel}
+use Rattle.separation.specs.declared.supervisor.Supervisor.{Supervisor}
 use Rattle.separation.specs.Agreement.{Agree, In}
-use Rattle.separation.specs.Calls.{Runs, SlotKeeps, SlotUnseen, Starts, WholeRun, finished_with, first, in_words, last_report, ready, ready_with, words_with}
+use Rattle.separation.specs.Calls.{Runs, SlotKeeps, SlotUnseen, Starts, WholeRun, finished, first, in_words, last_report, ready}
 use Rattle.separation.specs.Each.{LoadsAlike}
 use Rattle.separation.specs.Promises.{SlotPromises}
 use Rattle.separation.specs.Running.{BeforeSlot, Running}
@@ -29,22 +27,8 @@ pub running_first : (bytes words : List ℕ) (a : Accepted) → checked bytes wo
 unfolding begins
 running_first bytes words a e = record { before = before_first bytes words a e; clock = refl }
 
-starts_by : (bytes words : List ℕ) (r : Result Accepted Refusal) → checked bytes words ≡ r → MatchResult r (Sound bytes words) (FirstFound bytes words) →
-    MatchResult (ready_with r) (λ k. Sound bytes words k.accepted × Running bytes k.accepted (in_words k words)) (FirstFound bytes words)
-starts_by bytes words (Ok a) e found = (found, running_first bytes words a e)
-starts_by bytes words (Err d) e found = found
-
-starts : (bytes words : List ℕ) → Starts bytes words (ready_with (checked bytes words))
-starts bytes words = record {
-  accepts = λ law. ap ready_with (lawful_accepted bytes words law);
-  cases = starts_by bytes words (checked bytes words) refl (judged bytes words).cases;
-}
-
-pub started : (bytes words : List ℕ) (a : Accepted) (m : Machine) → Ok a ≡ checked bytes words → m ≡ loaded a.plan →
-    (Ok (record { accepted = a; machine = m }) ≡ ready_with (checked bytes words)) × Starts bytes words (Ok (record { accepted = a; machine = m }))
-started bytes words a m e d =
-    let value : Ok (record { accepted = a; machine = m }) ≡ ready_with (checked bytes words) = rw (d, ← e) in
-    (value, subst (Starts bytes words) (sym value) (starts bytes words))
+pub starts : (a : Accepted) → Starts a (ready a)
+starts a bytes words e = (accepted_sound bytes words a e, running_first bytes words a e)
 
 pub system_is : (m : Machine) (words : List ℕ) (t : System) → m ≡ t.machine → words ≡ t.words → system m words ≡ t
 system_is m words t a b = rw (a, b)
@@ -64,6 +48,10 @@ module _ (a : Accepted) (s t : System) (e : t ≡ after_slot a s) where
 pub slots_none : (a : Accepted) (s : System) → s ≡ after_slots a 0 s
 unfolding after_slots
 slots_none a s = refl
+
+pub last_none : (a : Accepted) (s : System) → None ≡ last_report a 0 s
+unfolding last_report
+last_none a s = refl
 
 pub slots_more : (a : Accepted) (n : ℕ) (s now next : System) → now ≡ after_slots a n s → next ≡ after_slot a now → next ≡ after_slots a (n + 1) s
 unfolding after_slots
@@ -102,38 +90,17 @@ module _ (bytes words : List ℕ) (a : Accepted) (e : checked bytes words ≡ Ok
     unseen = λ b A others closed d same. noninterference bytes a b A (first a words) (first b others) closed (before_first bytes words a e) (before_first bytes others b d) (loads_alike bytes words others a b A e d same);
   }
 
--- a kernel that is ready to run: what the checker answered
-ready_ok : (r : Result Accepted Refusal) (k : Kernel) → Ok k ≡ ready_with r → (r ≡ Ok k.accepted) × (k ≡ ready k.accepted)
-ready_ok (Ok a) k e =
-    let d : k ≡ ready a = cc in
-    let c : a ≡ k.accepted = sym (ap (λ z. z.accepted) d) in
-    (ap Ok c, d ∙ ap ready c)
-ready_ok (Err x) k e = absurd (let z : ◌≡◌ {A = ℕ} 0 1 = cc in omega arith)
-
 -- the end of a whole run
-module _ (bytes words : List ℕ) (first_kernel k : Kernel) (after : List ℕ) (n i : ℕ) (last : Option Report) (starts_so : Ok first_kernel ≡ ready_with (checked bytes words)) (all : i ≡ n)
-    (system_now : in_words k after ≡ after_slots first_kernel.accepted i (in_words first_kernel words)) (same : k.accepted ≡ first_kernel.accepted)
-    (last_now : last ≡ last_report first_kernel.accepted i (in_words first_kernel words)) where
-  accepts : checked bytes words ≡ Ok k.accepted
-  accepts = (ready_ok (checked bytes words) first_kernel starts_so).0 ∙ ap Ok (sym same)
+module _ (a : Accepted) (words after : List ℕ) (v : Supervisor) (n i : ℕ) (last : Option Report) (all : i ≡ n) (same : v.accepted ≡ a)
+    (system_now : in_words v after ≡ after_slots a i (first a words)) (last_now : last ≡ last_report a i (first a words)) where
+  pub system_then : in_words v after ≡ after_slots a n (first a words)
+  system_then = system_now ∙ ap (λ j. after_slots a j (first a words)) all
 
-  was_ready : first_kernel ≡ ready k.accepted
-  was_ready = (ready_ok (checked bytes words) first_kernel starts_so).1 ∙ ap ready (sym same)
-
-  pub system_then : in_words k after ≡ after_slots k.accepted n (first k.accepted words)
-  system_then = system_now ∙ ap (λ z. after_slots z.accepted i (in_words z words)) was_ready ∙ ap (λ j. after_slots k.accepted j (first k.accepted words)) all
-
-  last_then : last ≡ last_report k.accepted n (first k.accepted words)
-  last_then = last_now ∙ ap (λ z. last_report z.accepted i (in_words z words)) was_ready ∙ ap (λ j. last_report k.accepted j (first k.accepted words)) all
-
-  pub finished_value : Ok (record { kernel = k; last = last }) ≡ finished_with words n (checked bytes words)
+  pub finished_value : record { supervisor = v; last = last } ≡ finished a words n
   finished_value =
-      let machine : k.machine ≡ (after_slots k.accepted n (first k.accepted words)).machine = ap (λ z. z.machine) system_then in
-      rw accepts (ap (λ m. Ok (record { kernel = record { accepted = k.accepted; machine = m }; last = last })) machine
-      ∙ ap (λ l. Ok (record { kernel = record { accepted = k.accepted; machine = (after_slots k.accepted n (first k.accepted words)).machine }; last = l })) last_then)
+      let machine : v.machine ≡ (after_slots a n (first a words)).machine = ap (λ z. z.machine) system_then in
+      let last_then : last ≡ last_report a n (first a words) = last_now ∙ ap (λ j. last_report a j (first a words)) all in
+      rw (same, machine, last_then) refl
 
-  pub finished_words : after ≡ words_with words n (checked bytes words)
-  finished_words = rw accepts (ap (λ z. z.words) system_then)
-
-  pub finished_promises : n < 2 ^ 32 → Runs bytes words n after (Ok (record { kernel = k; last = last }))
-  finished_promises room = record { sound = accepted_sound bytes words k.accepted accepts; verdict = accepts; system = system_then; promises = whole_run bytes words k.accepted accepts n room }
+  pub finished_promises : n < 2 ^ 32 → Runs a words n after (record { supervisor = v; last = last })
+  finished_promises room bytes e = record { sound = accepted_sound bytes words a e; system = system_then; promises = whole_run bytes words a e n room }

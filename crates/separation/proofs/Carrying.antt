@@ -1,5 +1,5 @@
 -- Messages: what arrives, what stays, and that two systems carry alike.
-use Rattle.std.proofs.Common.{◌≡◌, ℕ, zero, suc, ◌<◌, ◌≤◌, true, ◌≢◌, List, length, sym, refl, ap, ◌∙◌, subst, inl, inr, arith}
+use Rattle.std.proofs.Common.{◌≡◌, ℕ, zero, suc, ◌<◌, ◌≤◌, true, cond, ◌≢◌, List, length, sym, refl, ap, ◌∙◌, subst, inl, inr, arith}
 use Rattle.std.proofs.lemmas.Bool.{cases_Bool, cases_eq, cases_lt, true≢false}
 use Rattle.words.specs.Frames.{word}
 use Rattle.words.proofs.Frame.{copies}
@@ -7,34 +7,45 @@ use Rattle.paging.specs.Tables.{Names, Owns}
 use Rattle.paging.proofs.Agree.{owns_back, owns_there, tables_decide, walks_find}
 use Rattle.plan.specs.declared.model.Endpoint.{Endpoint}
 use Rattle.plan.specs.declared.model.Plan.{Plan}
-use Rattle.plan.specs.Rules.{channel, leaves}
+use Rattle.plan.specs.Places.{channel, leaves}
+use Rattle.plan.specs.Flows.{Closed, by_channel}
+use Rattle.plan.specs.Switch.{message, messages}
 use Rattle.checker.specs.declared.Accepted.{Accepted}
 use Rattle.checker.specs.declared.pages.Ends.{Ends}
 use Rattle.checker.specs.Found.{Behind}
 use Rattle.checker.specs.Lawful.{root}
 use Rattle.checker.specs.Pages.{ends_at}
 use Rattle.kernel.specs.Switch.{carried, delivered, ends_of}
+use Rattle.kernel.proofs.Carrying.{delivered_more}
 use Rattle.separation.specs.Agreement.{SameWords}
-use Rattle.separation.specs.Flows.{Closed}
 use Rattle.separation.proofs.Facts.{Facts, behind_names, facts_kept}
 use Rattle.separation.proofs.Frames.{Kept, kept_more, kept_none, others_kept}
 use Rattle.separation.proofs.Steps.{foreign, tables_of}
 
 module _ (a : Accepted) (who : ℕ) where
-  -- one message
+  -- the message of channel k, if it goes
+  abbrev pub one : ℕ → List ℕ → List ℕ
+  one k ws = cond (leaves a.plan who k) (carried a ws (message a.plan k)) ws
+
+  -- those of the first n channels
+  abbrev pub sent : ℕ → List ℕ → List ℕ
+  sent n ws = delivered a (messages a.plan who n) ws
+
+  sent_none : (ws : List ℕ) → sent 0 ws ≡ ws
+  unfolding messages
+  sent_none ws = refl
+
   module _ (k : ℕ) (ws : List ℕ) where
-    pub carried_others : (f j : ℕ) → j < 1024 → (leaves a.plan who k ≡ true → f ≢ (ends_of a k).receiver) → word (carried a who k ws) f j ≡ word ws f j
-    unfolding carried
-    carried_others f j l ne = elim (cases_Bool (leaves a.plan who k)) [
+    pub one_others : (f j : ℕ) → j < 1024 → (leaves a.plan who k ≡ true → f ≢ (ends_of a k).receiver) → word (one k ws) f j ≡ word ws f j
+    one_others f j l ne = elim (cases_Bool (leaves a.plan who k)) [
       | inl e ↦ rw e ((copies ws (ends_of a k).sender (ends_of a k).receiver).others f j l (ne e))
-      | inr e ↦ rw e
+      | inr e ↦ rw e refl
     ]
 
-    carried_many : length (carried a who k ws) ≡ length ws
-    unfolding carried
-    carried_many = elim (cases_Bool (leaves a.plan who k)) [
+    one_many : length (one k ws) ≡ length ws
+    one_many = elim (cases_Bool (leaves a.plan who k)) [
       | inl e ↦ rw e (copies ws (ends_of a k).sender (ends_of a k).receiver).as_many
-      | inr e ↦ rw e
+      | inr e ↦ rw e refl
     ]
 
     module _ (l : k < a.plan.counts.channels) (h : Facts a.plan a.ends ws) where
@@ -44,50 +55,46 @@ module _ (a : Accepted) (who : ℕ) where
       pub receiver_names : Names ws (root a.plan (channel a.plan k).receiver.partition) (ends_of a k).receiver
       receiver_names = behind_names a.plan ws (channel a.plan k).receiver (ends_of a k).receiver (h.joined.receiver k l)
 
-      pub carried_there : (j : ℕ) → j < 1024 → leaves a.plan who k ≡ true → word (carried a who k ws) (ends_of a k).receiver j ≡ word ws (ends_of a k).sender j
-      unfolding carried
-      carried_there j b e =
+      pub one_there : (j : ℕ) → j < 1024 → leaves a.plan who k ≡ true → word (one k ws) (ends_of a k).receiver j ≡ word ws (ends_of a k).sender j
+      one_there j b e =
           rw e ((copies ws (ends_of a k).sender (ends_of a k).receiver).there
           (h.frames.lent (channel a.plan k).sender.partition (ends_of a k).sender (h.joined.sender_known k l) sender_owned)
           (h.frames.lent (channel a.plan k).receiver.partition (ends_of a k).receiver (h.joined.receiver_known k l) (inr receiver_names)) j b)
 
-      carried_kept : Kept a.plan ws (carried a who k ws)
-      carried_kept =
-          others_kept a.plan ws (carried a who k ws) (channel a.plan k).receiver.partition (h.joined.receiver_known k l) h.frames.separate
-          (λ f j ne b. carried_others f j b (λ _ e. ne (subst (Names ws (root a.plan (channel a.plan k).receiver.partition)) (sym e) receiver_names))) carried_many
+      pub one_kept : Kept a.plan ws (one k ws)
+      one_kept =
+          others_kept a.plan ws (one k ws) (channel a.plan k).receiver.partition (h.joined.receiver_known k l) h.frames.separate
+          (λ f j ne b. one_others f j b (λ _ e. ne (subst (Names ws (root a.plan (channel a.plan k).receiver.partition)) (sym e) receiver_names))) one_many
 
-  pub delivered_kept : (n : ℕ) (ws : List ℕ) → n ≤ a.plan.counts.channels → Facts a.plan a.ends ws → Kept a.plan ws (delivered a who n ws)
-  unfolding delivered
-  delivered_kept zero ws l h = kept_none a.plan ws
-  delivered_kept (suc n) ws l h =
-      let before = delivered_kept n ws (omega arith) h in
-      kept_more a.plan ws (delivered a who n ws) (carried a who n (delivered a who n ws)) before (carried_kept n (delivered a who n ws) (omega arith) (facts_kept a.plan a.ends ws (delivered a who n ws) before h))
+  pub sent_kept : (n : ℕ) (ws : List ℕ) → n ≤ a.plan.counts.channels → Facts a.plan a.ends ws → Kept a.plan ws (sent n ws)
+  sent_kept zero ws l h = rw (sent_none ws) (kept_none a.plan ws)
+  sent_kept (suc n) ws l h =
+      let before = sent_kept n ws (omega arith) h in
+      rw (delivered_more a who n ws) (kept_more a.plan ws (sent n ws) (one n (sent n ws)) before (one_kept n (sent n ws) (omega arith) (facts_kept a.plan a.ends ws (sent n ws) before h)))
 
   -- the facts hold after each message
-  pub delivered_facts : (n : ℕ) (ws : List ℕ) → n ≤ a.plan.counts.channels → Facts a.plan a.ends ws → Facts a.plan a.ends (delivered a who n ws)
-  delivered_facts n ws l h = facts_kept a.plan a.ends ws (delivered a who n ws) (delivered_kept n ws l h) h
+  pub sent_facts : (n : ℕ) (ws : List ℕ) → n ≤ a.plan.counts.channels → Facts a.plan a.ends ws → Facts a.plan a.ends (sent n ws)
+  sent_facts n ws l h = facts_kept a.plan a.ends ws (sent n ws) (sent_kept n ws l h) h
 
   -- a frame that no message goes to
-  pub delivered_others : (n : ℕ) (ws : List ℕ) (f j : ℕ) → j < 1024 → ((k : ℕ) → k < n → leaves a.plan who k ≡ true → f ≢ (ends_of a k).receiver) → word (delivered a who n ws) f j ≡ word ws f j
-  unfolding delivered
-  delivered_others zero ws f j l ne = refl
-  delivered_others (suc n) ws f j l ne =
-      carried_others n (delivered a who n ws) f j l (ne n (omega arith)) ∙ delivered_others n ws f j l (λ k b. ne k (omega arith))
+  pub sent_others : (n : ℕ) (ws : List ℕ) (f j : ℕ) → j < 1024 → ((k : ℕ) → k < n → leaves a.plan who k ≡ true → f ≢ (ends_of a k).receiver) → word (sent n ws) f j ≡ word ws f j
+  sent_others zero ws f j l ne = ap (λ z. word z f j) (sent_none ws)
+  sent_others (suc n) ws f j l ne =
+      ap (λ z. word z f j) (delivered_more a who n ws) ∙ one_others n (sent n ws) f j l (ne n (omega arith)) ∙ sent_others n ws f j l (λ k b. ne k (omega arith))
 
   -- what arrives is what the sender's frame held before any message
-  pub delivered_there : (n : ℕ) (ws : List ℕ) → n ≤ a.plan.counts.channels → Facts a.plan a.ends ws → (k j : ℕ) → k < n → j < 1024 → leaves a.plan who k ≡ true →
-      word (delivered a who n ws) (ends_of a k).receiver j ≡ word ws (ends_of a k).sender j
-  unfolding delivered
-  delivered_there zero ws l h k j b c e = absurd (omega arith)
-  delivered_there (suc n) ws l h k j b c e = elim (cases_lt k n) [
+  pub sent_there : (n : ℕ) (ws : List ℕ) → n ≤ a.plan.counts.channels → Facts a.plan a.ends ws → (k j : ℕ) → k < n → j < 1024 → leaves a.plan who k ≡ true →
+      word (sent n ws) (ends_of a k).receiver j ≡ word ws (ends_of a k).sender j
+  sent_there zero ws l h k j b c e = absurd (omega arith)
+  sent_there (suc n) ws l h k j b c e = ap (λ z. word z (ends_of a k).receiver j) (delivered_more a who n ws) ∙ elim (cases_lt k n) [
     | inl below ↦
-        carried_others n (delivered a who n ws) (ends_of a k).receiver j c (λ _ same. h.joined.apart k n (omega arith) (omega arith) (omega arith) (inr (inr (inr same))))
-        ∙ delivered_there n ws (omega arith) h k j below c e
+        one_others n (sent n ws) (ends_of a k).receiver j c (λ _ same. h.joined.apart k n (omega arith) (omega arith) (omega arith) (inr (inr (inr same))))
+        ∙ sent_there n ws (omega arith) h k j below c e
     | inr past ↦
         let here : k ≡ n = omega arith in
         let e2 : leaves a.plan who n ≡ true = subst (λ i. leaves a.plan who i ≡ true) here e in
-        rw here (carried_there n (delivered a who n ws) (omega arith) (delivered_facts n ws (omega arith) h) j c e2
-        ∙ delivered_others n ws (ends_of a n).sender j c (λ i li ei same. h.joined.apart n i (omega arith) (omega arith) (omega arith) (inr (inl same))))
+        rw here (one_there n (sent n ws) (omega arith) (sent_facts n ws (omega arith) h) j c e2
+        ∙ sent_others n ws (ends_of a n).sender j c (λ i li ei same. h.joined.apart n i (omega arith) (omega arith) (omega arith) (inr (inl same))))
   ]
 
 -- whoever has the frame behind a receiver's page is the receiver
@@ -121,7 +128,7 @@ module _ (p : Plan) (ea eb : List Ends) (A : ℕ → Type 0) where
     -- one message
     module _ (k : ℕ) (l : k < p.counts.channels) (ws vs : List ℕ) (hw : Facts p ea ws) (hv : Facts p eb vs) (same : SameWords p A ws vs) where
       sends : A (channel p k).receiver.partition → A (channel p k).sender.partition
-      sends m = closed (channel p k).sender.partition (channel p k).receiver.partition (record { number = k; exists = l; sends = refl; receives = refl }) m
+      sends m = closed (channel p k).sender.partition (channel p k).receiver.partition (by_channel k l refl refl) m
 
       same_receiver : A (channel p k).receiver.partition → (ends_at eb k).receiver ≡ (ends_at ea k).receiver
       same_receiver m = same_behind ws vs hw hv same (channel p k).receiver _ _ (hw.joined.receiver_known k l) m (hw.joined.receiver k l) (hv.joined.receiver k l)
@@ -130,35 +137,34 @@ module _ (p : Plan) (ea eb : List Ends) (A : ℕ → Type 0) where
       same_sender m = same_behind ws vs hw hv same (channel p k).sender _ _ (hw.joined.sender_known k l) m (hw.joined.sender k l) (hv.joined.sender k l)
 
       arrives : (q f j : ℕ) → q < p.counts.partitions → A q → j < 1024 → Owns ws (root p q) f → leaves p who k ≡ true → f ≡ (ends_at ea k).receiver →
-          word (carried (with_ends p eb) who k vs) f j ≡ word (carried (with_ends p ea) who k ws) f j
+          word (one (with_ends p eb) who k vs) f j ≡ word (one (with_ends p ea) who k ws) f j
       arrives q f j lq m b o goes at =
           let member = subst A (is_receiver p k l ws ea hw q f lq o at) m in
           let s = same_sender (sends member) in
           let r = same_receiver member in
-          let there : word (carried (with_ends p eb) who k vs) (ends_at eb k).receiver j ≡ word vs (ends_at eb k).sender j = carried_there (with_ends p eb) who k vs l hv j b goes in
-          let here : word (carried (with_ends p ea) who k ws) (ends_at ea k).receiver j ≡ word ws (ends_at ea k).sender j = carried_there (with_ends p ea) who k ws l hw j b goes in
+          let there : word (one (with_ends p eb) who k vs) (ends_at eb k).receiver j ≡ word vs (ends_at eb k).sender j = one_there (with_ends p eb) who k vs l hv j b goes in
+          let here : word (one (with_ends p ea) who k ws) (ends_at ea k).receiver j ≡ word ws (ends_at ea k).sender j = one_there (with_ends p ea) who k ws l hw j b goes in
           let between = same (channel p k).sender.partition (ends_at ea k).sender j (hw.joined.sender_known k l) (sends member) b (sender_owned (with_ends p ea) who k ws l hw) in
-          ap (λ g. word (carried (with_ends p eb) who k vs) g j) (at ∙ sym r) ∙ there ∙ ap (λ g. word vs g j) s ∙ between ∙ sym here ∙ ap (λ g. word (carried (with_ends p ea) who k ws) g j) (sym at)
+          ap (λ g. word (one (with_ends p eb) who k vs) g j) (at ∙ sym r) ∙ there ∙ ap (λ g. word vs g j) s ∙ between ∙ sym here ∙ ap (λ g. word (one (with_ends p ea) who k ws) g j) (sym at)
 
-      pub carried_alike : SameWords p A (carried (with_ends p ea) who k ws) (carried (with_ends p eb) who k vs)
-      carried_alike q f j lq m b o2 =
-          let o = owns_back ws (carried (with_ends p ea) who k ws) (root p q) ((carried_kept (with_ends p ea) who k ws l hw).tables q lq) f o2 in
+      pub one_alike : SameWords p A (one (with_ends p ea) who k ws) (one (with_ends p eb) who k vs)
+      one_alike q f j lq m b o2 =
+          let o = owns_back ws (one (with_ends p ea) who k ws) (root p q) ((one_kept (with_ends p ea) who k ws l hw).tables q lq) f o2 in
           let tables = tables_of p A ws vs same q lq m in
           elim (cases_Bool (leaves p who k)) [
             | inl goes ↦ elim (cases_eq f (ends_at ea k).receiver) [
               | inl at ↦ arrives q f j lq m b o goes at
               | inr ne ↦
-                  carried_others (with_ends p eb) who k vs f j b (λ _ at. ne (at ∙ same_receiver (subst A (is_receiver p k l vs eb hv q f lq (owns_there ws vs (root p q) tables f o) at) m)))
-                  ∙ same q f j lq m b o ∙ sym (carried_others (with_ends p ea) who k ws f j b (λ _. ne))
+                  one_others (with_ends p eb) who k vs f j b (λ _ at. ne (at ∙ same_receiver (subst A (is_receiver p k l vs eb hv q f lq (owns_there ws vs (root p q) tables f o) at) m)))
+                  ∙ same q f j lq m b o ∙ sym (one_others (with_ends p ea) who k ws f j b (λ _. ne))
             ]
             | inr stays ↦
-                carried_others (with_ends p eb) who k vs f j b (λ e. absurd (true≢false (sym e ∙ stays))) ∙ same q f j lq m b o
-                ∙ sym (carried_others (with_ends p ea) who k ws f j b (λ e. absurd (true≢false (sym e ∙ stays))))
+                one_others (with_ends p eb) who k vs f j b (λ e. absurd (true≢false (sym e ∙ stays))) ∙ same q f j lq m b o
+                ∙ sym (one_others (with_ends p ea) who k ws f j b (λ e. absurd (true≢false (sym e ∙ stays))))
           ]
 
-    pub delivered_alike : (n : ℕ) (ws vs : List ℕ) → n ≤ p.counts.channels → Facts p ea ws → Facts p eb vs → SameWords p A ws vs → SameWords p A (delivered (with_ends p ea) who n ws) (delivered (with_ends p eb) who n vs)
-    unfolding delivered
-    delivered_alike zero ws vs l hw hv same = same
-    delivered_alike (suc n) ws vs l hw hv same =
-        carried_alike n (omega arith) (delivered (with_ends p ea) who n ws) (delivered (with_ends p eb) who n vs)
-        (delivered_facts (with_ends p ea) who n ws (omega arith) hw) (delivered_facts (with_ends p eb) who n vs (omega arith) hv) (delivered_alike n ws vs (omega arith) hw hv same)
+    pub sent_alike : (n : ℕ) (ws vs : List ℕ) → n ≤ p.counts.channels → Facts p ea ws → Facts p eb vs → SameWords p A ws vs → SameWords p A (sent (with_ends p ea) who n ws) (sent (with_ends p eb) who n vs)
+    sent_alike zero ws vs l hw hv same = rw (sent_none (with_ends p ea) who ws, sent_none (with_ends p eb) who vs) same
+    sent_alike (suc n) ws vs l hw hv same = rw (delivered_more (with_ends p ea) who n ws, delivered_more (with_ends p eb) who n vs)
+        (one_alike n (omega arith) (sent (with_ends p ea) who n ws) (sent (with_ends p eb) who n vs)
+        (sent_facts (with_ends p ea) who n ws (omega arith) hw) (sent_facts (with_ends p eb) who n vs (omega arith) hv) (sent_alike n ws vs (omega arith) hw hv same))

@@ -9,10 +9,12 @@ use Rattle.plan.specs.declared.model.Endpoint.{Endpoint}
 use Rattle.plan.specs.declared.model.Plan.{Plan}
 use Rattle.plan.specs.declared.refusal.Count.TheVariants.{Partitions, Slots}
 use Rattle.plan.specs.Format.{plan_of}
-use Rattle.plan.specs.Rules.{ample, channel}
+use Rattle.plan.specs.Places.{channel}
+use Rattle.plan.specs.Switch.{required_budget}
+use Rattle.plan.specs.Lawful.{SlotFits}
 use Rattle.plan.specs.Timetable.{begins, slot_of}
-use Rattle.plan.proofs.Stages.{ample_fits}
-use Rattle.plan.proofs.Times.{lawful_bounded as bounded}
+use Rattle.plan.proofs.Decides.{budget_covers}
+use Rattle.plan.proofs.Times.{bounded}
 use Rattle.checker.specs.declared.Accepted.{Accepted}
 use Rattle.checker.specs.declared.pages.Ends.{Ends}
 use Rattle.checker.specs.Checked.{checked}
@@ -38,7 +40,8 @@ pub record Joined (p : Plan) (ends : List Ends) (ws : List ℕ) : Type 0 where
 pub record Timely (p : Plan) : Type 0 where
   pub few : p.counts.partitions ≤ 8
   pub runs : (n : ℕ) → (slot_of p n).partition < p.counts.partitions
-  pub ample : ample p ≤ p.budget
+  pub short : (n : ℕ) → (slot_of p n).length ≤ 1000000
+  pub covered : required_budget p ≤ p.budget
   pub bounded : (n : ℕ) → begins p n ≤ n * 1100000
 
 pub record Facts (p : Plan) (ends : List Ends) (ws : List ℕ) : Type 0 where
@@ -101,6 +104,8 @@ facts_of : (bytes ws : List ℕ) (a : Accepted) → checked bytes ws ≡ Ok a �
 facts_of bytes ws a e =
     let sound = accepted_sound bytes ws a e in
     let law = sound.lawful in
+    let slot_fits : (n : ℕ) → SlotFits (plan_of bytes) (n % (plan_of bytes).counts.slots) =
+    λ n. law.plan.slots (n % (plan_of bytes).counts.slots) (mod_below n (plan_of bytes).counts.slots (omega (arith, (law.plan.counts Slots).0))) in
     let sep : Separate ws (plan_of bytes) = subst (Separate ws) sound.plan (accepted_separate bytes ws a e) in
     record {
       frames = record {
@@ -119,8 +124,9 @@ facts_of bytes ws a e =
       };
       timely = record {
         few = (law.plan.counts Partitions).1;
-        runs = λ n. (law.plan.slots (n % (plan_of bytes).counts.slots) (mod_below n (plan_of bytes).counts.slots (omega (arith, (law.plan.counts Slots).0)))).0;
-        ample = ample_fits (plan_of bytes) law.plan.budget;
+        runs = λ n. (slot_fits n).0;
+        short = λ n. (slot_fits n).2;
+        covered = budget_covers (plan_of bytes) law.plan.budget;
         bounded = bounded bytes law.plan;
       };
     }

@@ -1,109 +1,124 @@
 -- One slot of a system that runs an accepted plan: every promise.
 use Rattle.std.proofs.Common.{◌≡◌, ℕ, ◌+◌, ◌^◌, ◌<◌, ◌≤◌, true, ◌≢◌, List, length, set, sym, refl, ap, ◌∙◌, subst, add-one, arith}
 use Rattle.std.proofs.lemmas.List.{get_or-set_other, get_or-set_same, length-set}
-use Rattle.std.proofs.lemmas.Bool.{cond-true, eq-eqb, eqb-true}
-use Rattle.words.specs.Costs.{highest}
+use Rattle.std.proofs.lemmas.Bool.{cond-true, eq-eqb}
+use Rattle.costs.specs.Costs.{worst_instruction}
 use Rattle.words.specs.Frames.{word}
 use Rattle.words.proofs.First.{count_at_most, most_bound}
 use Rattle.tables.specs.Cache.{dirty_at}
 use Rattle.tables.specs.First.{first_tables}
 use Rattle.tables.specs.Honest.{Honest}
 use Rattle.tables.proofs.Truth.{honesty}
+use Rattle.paging.specs.Mapping.{Maps}
+use Rattle.paging.specs.Tables.{Names}
 use Rattle.paging.proofs.Agree.{leaves_named, names_back}
-use Rattle.plan.specs.Rules.{channel, channels_out, leaves}
+use Rattle.plan.specs.Places.{channel, leaves}
+use Rattle.plan.specs.Switch.{copies, copy_cycles, message}
+use Rattle.plan.proofs.Copying.{has_message}
 use Rattle.plan.specs.Timetable.{begins}
 use Rattle.checker.specs.declared.Accepted.{Accepted}
 use Rattle.checker.specs.Found.{Behind}
 use Rattle.checker.specs.Lawful.{root}
 use Rattle.hart.specs.Execution.{fresh}
-use Rattle.kernel.specs.Machine.{System, after_slot, can_run, coming, context_of, ended, entered, inside_after, slot_end, slot_ran, who_runs}
-use Rattle.kernel.specs.Inside.{beginning, until}
-use Rattle.kernel.specs.Switch.{delivered, ends_of, switch_work}
-use Rattle.kernel.proofs.Turning.{can}
-use Rattle.separation.specs.Promises.{Confined, Executes, GoesOn, KeepsPromises, Messages, Progress, SlotPromises, TranslatesThroughout, runs}
+use Rattle.kernel.specs.Machine.{System, after_slot, can_run, coming, context_of, ended, entered, inside_after, slot_end, slot_ran}
+use Rattle.kernel.specs.Shim.{until}
+use Rattle.kernel.specs.Switch.{ends_of, switch_work}
+use Rattle.kernel.proofs.Running.{until_least, until_most}
+use Rattle.kernel.proofs.Turning.{can, clock_below}
+use Rattle.separation.specs.Promises.{Confined, Executes, GoesOn, KeepsPromises, Messages, Progress, Rests, SlotPromises, TranslatesThroughout, runs}
 use Rattle.separation.specs.Running.{BeforeSlot, Running}
-use Rattle.separation.proofs.Carrying.{delivered_kept, delivered_others, delivered_there, is_receiver}
+use Rattle.separation.proofs.Carrying.{is_receiver, sent, sent_kept, sent_others, sent_there}
 use Rattle.separation.proofs.Facts.{Facts, accepts_again, facts, facts_kept}
 use Rattle.separation.proofs.Frames.{Kept, kept_more}
-use Rattle.separation.proofs.Steps.{Good, Went, foreign, until_counted, until_goes_on, until_least, until_most, until_went}
+use Rattle.separation.proofs.Steps.{Good, Went, foreign, until_counted, until_goes_on, until_went}
 
 module _ (bytes : List ℕ) (a : Accepted) (s : System) (before : BeforeSlot bytes a s) where
   pub known : Facts a.plan a.ends s.words
   known = facts bytes s.words a before.accepts
 
-  pub who_known : who_runs a.plan s.machine < a.plan.counts.partitions
+  pub who_known : runs a s < a.plan.counts.partitions
   who_known = known.timely.runs s.machine.turn
 
-  pub good : Good a.plan (runs a s) who_known (entered a.plan s)
+  pub good : Good a.plan (runs a s) (entered a.plan s).now
   good = record {
     sound = known.frames;
+    under = refl;
     honest = subst (λ t. Honest t.tlb s.words (root a.plan (runs a s))) (sym before.tables) (honesty.first s.words (root a.plan (runs a s)));
   }
 
-  pub went : (n : ℕ) → Went a.plan (runs a s) who_known (entered a.plan s) (inside_after a.plan s n)
+  pub went : (n : ℕ) → Went a.plan (runs a s) (entered a.plan s).now (inside_after a.plan s n).now
   unfolding inside_after
-  went n = until_went a.plan (runs a s) who_known (slot_end a.plan s.machine) n (entered a.plan s) good
+  went n = until_went a.plan (runs a s) who_known (slot_end a.plan s.machine) n (entered a.plan s).now good
 
-  at_end : Went a.plan (runs a s) who_known (entered a.plan s) (ended a.plan s)
+  at_end : Went a.plan (runs a s) (entered a.plan s).now (ended a.plan s).now
   at_end = went (coming a.plan s.machine).length
 
-  pub end_facts : Facts a.plan a.ends (ended a.plan s).words
-  end_facts = facts_kept a.plan a.ends s.words (ended a.plan s).words at_end.kept known
+  pub end_facts : Facts a.plan a.ends (ended a.plan s).now.words
+  end_facts = facts_kept a.plan a.ends s.words (ended a.plan s).now.words at_end.kept known
 
   translates : TranslatesThroughout a s
-  translates n = let w = went n in record {
-    honest = w.good.honest;
-    reaches = λ page leaf m.
-        names_back s.words (inside_after a.plan s n).words (root a.plan (runs a s)) (w.kept.tables (runs a s) who_known) leaf.frame
-        (leaves_named (inside_after a.plan s n).words (root a.plan (runs a s)) page leaf m);
-    own = λ f j b ne. w.others f j ne b;
-  }
+  unfolding inside_after
+  translates n =
+      let w = went n in
+      let x = inside_after a.plan s n in
+      record {
+        who = refl;
+        under = w.good.under;
+        honest = w.good.honest;
+        reaches = λ page leaf m. subst (λ r. Names s.words r leaf.frame) (sym w.good.under)
+            (names_back s.words x.now.words (root a.plan (runs a s)) (w.kept.tables (runs a s) who_known) leaf.frame
+            (leaves_named x.now.words (root a.plan (runs a s)) page leaf (subst (λ r. Maps x.now.words r page leaf) w.good.under m)));
+        own = λ f j b ne. w.others f j (λ n. ne (subst (λ r. Names s.words r f) (sym w.good.under) n)) b;
+      }
 
   -- the program begins where it was
-  resumes : inside_after a.plan s 0 ≡ beginning (context_of s.machine (runs a s)) first_tables s.words s.machine.clock
+  resumes : inside_after a.plan s 0 ≡ record { who = runs a s; now = record { core = record (entered a.plan s).now.core { tables = first_tables }; words = s.words; instructions = 0 } }
   unfolding inside_after until
-  resumes = ap (λ t. beginning (context_of s.machine (runs a s)) t s.words s.machine.clock) before.tables
-
-  goes_on : (n : ℕ) → GoesOn (root a.plan (runs a s)) (slot_end a.plan s.machine) (inside_after a.plan s n) (inside_after a.plan s (n + 1))
-  unfolding inside_after
-  goes_on n =
-      let r = root a.plan (runs a s) in
-      let stop = slot_end a.plan s.machine in
-      subst (λ k. GoesOn r stop (inside_after a.plan s n) (inside_after a.plan s k)) (sym (add-one n)) (until_goes_on r stop n (entered a.plan s) (went n).good.honest)
-
-  -- the slot goes on to its end, and with its switch takes as long as the budget allows
-  reached : slot_end a.plan s.machine ≤ (ended a.plan s).clock
-  unfolding inside_after
-  reached = until_least (root a.plan (runs a s)) (slot_end a.plan s.machine) (coming a.plan s.machine).length (entered a.plan s) (omega arith)
-
-  past : (ended a.plan s).clock < slot_end a.plan s.machine + highest
-  unfolding inside_after
-  past = until_most (root a.plan (runs a s)) (slot_end a.plan s.machine) (coming a.plan s.machine).length (entered a.plan s) (omega arith)
-
-  fits : (ended a.plan s).clock + switch_work a.plan (runs a s) (ended a.plan s).tables ≤ slot_end a.plan s.machine + a.plan.budget
-  fits =
-      let dirty = count_at_most (dirty_at (ended a.plan s).tables.cache) 64 in
-      let out = most_bound (channels_out a.plan) a.plan.counts.partitions (runs a s) who_known in
-      omega (arith, past, dirty, out, known.timely.ample)
-
-  progress : Progress a s
-  unfolding inside_after
-  progress ready =
-      let n = (coming a.plan s.machine).length in
-      let c = until_counted (root a.plan (runs a s)) (slot_end a.plan s.machine) n (entered a.plan s) ready in
-      omega (arith, c.paid, reached)
+  resumes = ap (λ t. record { who = runs a s; now = record { core = record (entered a.plan s).now.core { tables = t }; words = s.words; instructions = 0 } }) before.tables
 
   module _ (able : can_run a.plan s.machine ≡ true) where
+    -- the clock has room for the slot
+    room : slot_end a.plan s.machine + worst_instruction < 2 ^ 64
+    room = omega (arith, clock_below a.plan s.machine able, known.timely.short s.machine.turn)
+
+    goes_on : (n : ℕ) → GoesOn (slot_end a.plan s.machine) (inside_after a.plan s n) (inside_after a.plan s (n + 1))
+    unfolding inside_after
+    goes_on n =
+        subst (λ k. GoesOn (slot_end a.plan s.machine) (inside_after a.plan s n) (inside_after a.plan s k)) (sym (add-one n))
+        (until_goes_on (slot_end a.plan s.machine) room n (entered a.plan s) (went n).good.honest)
+
+    -- the slot goes on to its end, and with its switch takes as long as the budget allows
+    reached : slot_end a.plan s.machine ≤ (ended a.plan s).now.core.clock
+    unfolding inside_after
+    reached = until_least (slot_end a.plan s.machine) room (coming a.plan s.machine).length (entered a.plan s).now (omega arith)
+
+    past : (ended a.plan s).now.core.clock < slot_end a.plan s.machine + worst_instruction
+    unfolding inside_after
+    past = until_most (slot_end a.plan s.machine) room (coming a.plan s.machine).length (entered a.plan s).now (omega arith)
+
+    fits : (ended a.plan s).now.core.clock + switch_work a.plan (runs a s) (ended a.plan s).now.core.tables ≤ slot_end a.plan s.machine + a.plan.budget
+    fits =
+        let dirty = count_at_most (dirty_at (ended a.plan s).now.core.tables.cache) 64 in
+        let out = most_bound (λ who. copy_cycles (copies a.plan who)) a.plan.counts.partitions (runs a s) who_known in
+        omega (arith, past, dirty, out, known.timely.covered)
+
+    progress : Progress a s
+    unfolding inside_after
+    progress ready =
+        let n = (coming a.plan s.machine).length in
+        let c = until_counted (slot_end a.plan s.machine) room n (entered a.plan s).now ready in
+        omega (arith, c.paid, reached)
+
     after_is : after_slot a s ≡ slot_ran a s
     unfolding after_slot
     after_is = cond-true (can_run a.plan s.machine) (slot_ran a s) s able
 
-    pub words_are : (after_slot a s).words ≡ delivered a (runs a s) a.plan.counts.channels (ended a.plan s).words
+    pub words_are : (after_slot a s).words ≡ sent a (runs a s) a.plan.counts.channels (ended a.plan s).now.words
     unfolding slot_ran
     words_are = ap (λ z. z.words) after_is
 
-    pub contexts_are : (after_slot a s).machine.contexts ≡ set s.machine.contexts (runs a s) (ended a.plan s).context
-    unfolding slot_ran
+    pub contexts_are : (after_slot a s).machine.contexts ≡ set s.machine.contexts (runs a s) (ended a.plan s).now.core.context
+    unfolding slot_ran inside_after
     contexts_are = ap (λ z. z.machine.contexts) after_is
 
     pub cleared : (after_slot a s).machine.tables ≡ first_tables
@@ -120,13 +135,13 @@ module _ (bytes : List ℕ) (a : Accepted) (s : System) (before : BeforeSlot byt
 
     kept : Kept a.plan s.words (after_slot a s).words
     kept = subst (Kept a.plan s.words) (sym words_are)
-        (kept_more a.plan s.words (ended a.plan s).words _ at_end.kept (delivered_kept a (runs a s) a.plan.counts.channels (ended a.plan s).words (omega arith) end_facts))
+        (kept_more a.plan s.words (ended a.plan s).now.words _ at_end.kept (sent_kept a (runs a s) a.plan.counts.channels (ended a.plan s).now.words (omega arith) end_facts))
 
     pub before_again : BeforeSlot bytes a (after_slot a s)
     before_again = record {
       accepts = accepts_again bytes s.words (after_slot a s).words a kept before.accepts;
       tables = cleared;
-      contexts = ap length contexts_are ∙ length-set s.machine.contexts (runs a s) (ended a.plan s).context ∙ before.contexts;
+      contexts = ap length contexts_are ∙ length-set s.machine.contexts (runs a s) (ended a.plan s).now.core.context ∙ before.contexts;
     }
 
     messages : Messages a s (after_slot a s)
@@ -135,31 +150,36 @@ module _ (bytes : List ℕ) (a : Accepted) (s : System) (before : BeforeSlot byt
       receiver_page = end_facts.joined.receiver;
       arrives = λ k j l sender b.
           let goes : leaves a.plan (runs a s) k ≡ true = eq-eqb (channel a.plan k).sender.partition (runs a s) sender in
-          ap (λ z. word z (ends_of a k).receiver j) words_are ∙ delivered_there a (runs a s) a.plan.counts.channels (ended a.plan s).words (omega arith) end_facts k j l b goes;
+          ap (λ z. word z (ends_of a k).receiver j) words_are ∙ sent_there a (runs a s) a.plan.counts.channels (ended a.plan s).now.words (omega arith) end_facts k j l b goes;
       others = λ f j b none.
-          ap (λ z. word z f j) words_are ∙ delivered_others a (runs a s) a.plan.counts.channels (ended a.plan s).words f j b (λ k l goes.
-          none k l (eqb-true (channel a.plan k).sender.partition (runs a s) goes));
+          ap (λ z. word z f j) words_are ∙ sent_others a (runs a s) a.plan.counts.channels (ended a.plan s).now.words f j b (λ k l goes.
+          none (message a.plan k) (has_message a.plan (runs a s) k l goes));
     }
 
     -- what the program that ran has become
-    pub ran_context : (w : ℕ) → w ≡ runs a s → context_of (after_slot a s).machine w ≡ (ended a.plan s).context
+    pub ran_context : (w : ℕ) → w ≡ runs a s → context_of (after_slot a s).machine w ≡ (ended a.plan s).now.core.context
     ran_context w e =
         let inside : w < length s.machine.contexts = omega (arith, e, who_known, known.timely.few, before.contexts) in
-        rw (contexts_are, sym e) (get_or-set_same s.machine.contexts w (ended a.plan s).context (fresh 0) inside)
+        rw (contexts_are, sym e) (get_or-set_same s.machine.contexts w (ended a.plan s).now.core.context (fresh 0) inside)
 
     executes : Executes a s (after_slot a s)
+    unfolding inside_after
     executes = record { resumes = resumes; goes_on = goes_on; keeps = ran_context (runs a s) refl }
 
     pub confined : (q : ℕ) → q < a.plan.counts.partitions → q ≢ runs a s → Confined a s (after_slot a s) q
     confined q l ne = record {
-      context = rw contexts_are (get_or-set_other s.machine.contexts (runs a s) q (ended a.plan s).context (fresh 0) ne);
+      context = rw contexts_are (get_or-set_other s.machine.contexts (runs a s) q (ended a.plan s).now.core.context (fresh 0) ne);
       words = λ f j b o none.
           ap (λ z. word z f j) words_are
-          ∙ delivered_others a (runs a s) a.plan.counts.channels (ended a.plan s).words f j b (λ k lk goes e.
-          none k lk (eqb-true (channel a.plan k).sender.partition (runs a s) goes) (sym (is_receiver a.plan k lk s.words a.ends known q f l o e))
+          ∙ sent_others a (runs a s) a.plan.counts.channels (ended a.plan s).now.words f j b (λ k lk goes e.
+          none (message a.plan k) (has_message a.plan (runs a s) k lk goes) (sym (is_receiver a.plan k lk s.words a.ends known q f l o e))
           (subst (Behind s.words a.plan (channel a.plan k).receiver) (sym e) (known.joined.receiver k lk)))
           ∙ at_end.others f j (foreign a.plan s.words q (runs a s) f known.frames.separate l who_known ne o) b;
     }
+
+    confined_at_rest : (q : ℕ) → q < a.plan.counts.partitions → Rests a s q → Confined a s (after_slot a s) q
+    unfolding inside_after
+    confined_at_rest q l rests = confined q l (rests 0)
 
 -- on time
 module _ (bytes : List ℕ) (a : Accepted) (s : System) (running : Running bytes a s) (room : s.machine.turn + 1 < 2 ^ 32) where
@@ -181,12 +201,12 @@ module _ (bytes : List ℕ) (a : Accepted) (s : System) (running : Running bytes
   promised = let b = running.before in record {
     again = again;
     turn = turned bytes a s b can_be;
-    switch = record { reached = reached bytes a s b; past = past bytes a s b; cleared = cleared bytes a s b can_be; fits = fits bytes a s b; next = next bytes a s b can_be };
+    switch = record { reached = reached bytes a s b can_be; past = past bytes a s b can_be; cleared = cleared bytes a s b can_be; fits = fits bytes a s b can_be; next = next bytes a s b can_be };
     messages = messages bytes a s b can_be;
-    confined = confined bytes a s b can_be;
+    confined = confined_at_rest bytes a s b can_be;
     execution = executes bytes a s b can_be;
     translation = translates bytes a s b;
-    progress = progress bytes a s b;
+    progress = progress bytes a s b can_be;
   }
 
 pub keeps_promises : KeepsPromises

@@ -3,30 +3,27 @@ use Rattle.std.proofs.Common.{◌≡◌, ℕ, zero, suc, ◌+◌, ◌^◌, ◌<�
 use Rattle.std.proofs.lemmas.Bool.{cases_Bool, cases_eq}
 use Rattle.words.specs.Frames.{word}
 use Rattle.paging.proofs.Agree.{owns_back, owns_there}
-use Rattle.tables.specs.Honest.{Honest}
 use Rattle.plan.specs.declared.model.Plan.{Plan}
+use Rattle.plan.specs.Flows.{Closed, Path, stays, goes_on}
 use Rattle.plan.specs.Timetable.{slot_of}
 use Rattle.checker.specs.declared.Accepted.{Accepted}
 use Rattle.checker.specs.declared.pages.Ends.{Ends}
 use Rattle.checker.specs.Lawful.{root}
 use Rattle.checker.proofs.Judged.{accepted_sound}
-use Rattle.kernel.specs.declared.report.Report.{Report}
-use Rattle.kernel.specs.Inside.{Inside, beginning, until}
+use Rattle.kernel.specs.declared.machine.Machine.{Machine}
+use Rattle.kernel.specs.Inside.{Inside, onward}
 use Rattle.kernel.specs.Machine.{System, after_slot, after_slots, can_run, coming, context_of, ended, entered, inside_after, slot_end, who_runs}
 use Rattle.kernel.specs.Reports.{report_of, slot_report}
-use Rattle.kernel.specs.Switch.{delivered}
 use Rattle.separation.specs.Agreement.{Agree, AllBut, In, Noninterference, NotReached, Only, SameInside, SameReport, SameWords, StepByStep, Unseen}
-use Rattle.separation.specs.Flows.{Closed, RowOfFlows, stays, goes_on}
 use Rattle.separation.specs.Running.{BeforeSlot}
-use Rattle.separation.proofs.Carrying.{delivered_alike, with_ends}
+use Rattle.separation.proofs.Carrying.{sent, sent_alike, with_ends}
 use Rattle.separation.proofs.Slots.{before_again, cleared, confined, end_facts, good, known, next, ran_context, turned, went, who_known, words_are}
 use Rattle.separation.proofs.Steps.{Good, foreign, tables_of, until_alike}
 
 -- reports with the same parts
-same_told : (m n who also b c : ℕ) (x y : Inside) → m ≡ n → who ≡ also → b ≡ c → x.clock ≡ y.clock → x.instructions ≡ y.instructions → x.context ≡ y.context →
-    ◌≡◌ {A = Report} (record { slot = m; partition = who; begin = b; end = x.clock; instructions = x.instructions; pc = x.context.pc; state = x.context.state })
-    (record { slot = n; partition = also; begin = c; end = y.clock; instructions = y.instructions; pc = y.context.pc; state = y.context.state })
-same_told m n who also b c x y e f g h i j = rw (e, f, g, h, i, j)
+same_told : (m n : Machine) (x y : Inside) → m.turn ≡ n.turn → m.clock ≡ n.clock → x.who ≡ y.who → x.now.core.clock ≡ y.now.core.clock → x.now.instructions ≡ y.now.instructions →
+    x.now.core.context ≡ y.now.core.context → report_of m x ≡ report_of n y
+same_told m n x y e f g h i j = rw (e, f, g, h, i, j) refl
 
 module _ (bytes : List ℕ) (p : Plan) (ea eb : List Ends) (A : ℕ → Type 0) (closed : Closed p A) where
   module _ (s t : System) (rs : BeforeSlot bytes (with_ends p ea) s) (rt : BeforeSlot bytes (with_ends p eb) t) (same : Agree p A s t) where
@@ -36,54 +33,51 @@ module _ (bytes : List ℕ) (p : Plan) (ea eb : List Ends) (A : ℕ → Type 0) 
     same_end : slot_end p t.machine ≡ slot_end p s.machine
     same_end = omega (arith, same.clock, ap (λ n. (slot_of p n).length) same.turn)
 
-    -- the other system's slot, with what both have in common written as in the first
-    retold : (n : ℕ) → inside_after p t n ≡
-        until (root p (who_runs p s.machine)) (slot_end p s.machine) n (beginning (context_of t.machine (who_runs p s.machine)) t.machine.tables t.words t.machine.clock)
-    unfolding inside_after
-    retold n =
-        ap (λ w. until (root p w) (slot_end p t.machine) n (beginning (context_of t.machine w) t.machine.tables t.words t.machine.clock)) same_who
-        ∙ ap (λ z. until (root p (who_runs p s.machine)) z n (beginning (context_of t.machine (who_runs p s.machine)) t.machine.tables t.words t.machine.clock)) same_end
+    -- both begin alike
+    alike : A (who_runs p s.machine) → SameInside p A (entered p s) (entered p t)
+    alike member = record {
+      who = same_who;
+      under = ap (root p) same_who;
+      context = ap (context_of t.machine) same_who ∙ same.contexts (who_runs p s.machine) (who_known bytes (with_ends p ea) s rs) member;
+      tables = same.tables;
+      clock = same.clock;
+      instructions = refl;
+      words = same.words;
+    }
 
     steps : StepByStep p A s t
     unfolding inside_after
-    steps member n =
+    steps n member =
         let w = who_runs p s.machine in
-        let k = who_known bytes (with_ends p ea) s rs in
-        let x = entered p s in
-        let y = beginning (context_of t.machine (who_runs p s.machine)) t.machine.tables t.words t.machine.clock in
-        let gx : Good p (who_runs p s.machine) k x = good bytes (with_ends p ea) s rs in
-        let gt = good bytes (with_ends p eb) t rt in
-        let gy : Good p (who_runs p s.machine) k y = record {
-          sound = gt.sound;
-          honest = subst (λ v. Honest t.machine.tables.tlb t.words (root p v)) same_who gt.honest;
-        } in
-        let start : SameInside p A x y = record {
-          context = same.contexts (who_runs p s.machine) k member;
-          tables = same.tables;
-          clock = same.clock;
-          instructions = refl;
-          words = same.words;
-        } in
-        rw (retold n) (until_alike p (who_runs p s.machine) k A member (slot_end p s.machine) n x y gx gy start)
+        let end = slot_end p s.machine in
+        let told : inside_after p t n ≡ onward end n (entered p t) = ap (λ z. onward z n (entered p t)) same_end in
+        rw told (until_alike p (who_runs p s.machine) (who_known bytes (with_ends p ea) s rs) A member (slot_end p s.machine) n (entered p s) (entered p t)
+        (good bytes (with_ends p ea) s rs) (subst (λ w. Good p w (entered p t).now) same_who (good bytes (with_ends p eb) t rt)) (alike member))
 
     same_ended : ended p t ≡ inside_after p t (coming p s.machine).length
     same_ended = ap (λ n. inside_after p t (slot_of p n).length) same.turn
 
     -- the words at the slot's end: those of the partition that runs by its steps, the others as they were
-    end_words : SameWords p A (ended p s).words (ended p t).words
+    end_words : SameWords p A (ended p s).now.words (ended p t).now.words
+    unfolding inside_after
     end_words q f k l m b o2 =
         let n = (coming p s.machine).length in
         let here = went bytes (with_ends p ea) s rs (coming p s.machine).length in
         let there = went bytes (with_ends p eb) t rt (coming p t.machine).length in
-        let before = owns_back s.words (ended p s).words (root p q) (here.kept.tables q l) f o2 in
+        let before = owns_back s.words (ended p s).now.words (root p q) (here.kept.tables q l) f o2 in
         let tables = tables_of p A s.words t.words same.words q l m in
         elim (cases_eq q (who_runs p s.machine)) [
-          | inl e ↦ ap (λ x. word x.words f k) same_ended ∙ (steps (subst A e m) n).words q f k l m b o2
+          | inl e ↦ ap (λ x. word x.now.words f k) same_ended ∙ (steps n (subst A e m)).words q f k l m b o2
           | inr ne ↦
               there.others f k (foreign p t.words q (who_runs p t.machine) f (known bytes (with_ends p eb) t rt).frames.separate l (who_known bytes (with_ends p eb) t rt) (λ e. ne (e ∙ same_who)) (owns_there s.words t.words (root p q) tables f before)) b
               ∙ same.words q f k l m b before
               ∙ sym (here.others f k (foreign p s.words q (who_runs p s.machine) f (known bytes (with_ends p ea) s rs).frames.separate l (who_known bytes (with_ends p ea) s rs) ne before) b)
         ]
+
+    -- at the slot's end, in a slot of a member
+    steps_at : A (who_runs p s.machine) → SameInside p A (ended p s) (inside_after p t (coming p s.machine).length)
+    unfolding inside_after
+    steps_at = steps (coming p s.machine).length
 
     same_can : can_run p t.machine ≡ can_run p s.machine
     same_can =
@@ -98,7 +92,7 @@ module _ (bytes : List ℕ) (p : Plan) (ea eb : List Ends) (A : ℕ → Type 0) 
       contexts q l m = elim (cases_eq q (who_runs p s.machine)) [
         | inl e ↦
             ran_context bytes (with_ends p eb) t rt there_able q (e ∙ sym same_who)
-            ∙ ap (λ x. x.context) same_ended ∙ (steps (subst A e m) (coming p s.machine).length).context
+            ∙ ap (λ x. x.now.core.context) same_ended ∙ (steps_at (subst A e m)).context
             ∙ sym (ran_context bytes (with_ends p ea) s rs here_able q e)
         | inr ne ↦
             (confined bytes (with_ends p eb) t rt there_able q l (λ e. ne (e ∙ same_who))).context ∙ same.contexts q l m ∙ sym (confined bytes (with_ends p ea) s rs here_able q l ne).context
@@ -106,11 +100,11 @@ module _ (bytes : List ℕ) (p : Plan) (ea eb : List Ends) (A : ℕ → Type 0) 
 
       words : SameWords p A (after_slot (with_ends p ea) s).words (after_slot (with_ends p eb) t).words
       words =
-          let e : (after_slot (with_ends p eb) t).words ≡ delivered (with_ends p eb) (who_runs p s.machine) p.counts.channels (ended p t).words =
-          words_are bytes (with_ends p eb) t rt there_able ∙ ap (λ w. delivered (with_ends p eb) w p.counts.channels (ended p t).words) same_who in
+          let e : (after_slot (with_ends p eb) t).words ≡ sent (with_ends p eb) (who_runs p s.machine) p.counts.channels (ended p t).now.words =
+          words_are bytes (with_ends p eb) t rt there_able ∙ ap (λ w. sent (with_ends p eb) w p.counts.channels (ended p t).now.words) same_who in
           subst (λ z. SameWords p A z (after_slot (with_ends p eb) t).words) (sym (words_are bytes (with_ends p ea) s rs here_able))
-          (subst (λ z. SameWords p A (delivered (with_ends p ea) (who_runs p s.machine) p.counts.channels (ended p s).words) z) (sym e)
-          (delivered_alike p ea eb A closed (who_runs p s.machine) p.counts.channels (ended p s).words (ended p t).words (omega arith) (end_facts bytes (with_ends p ea) s rs) (end_facts bytes (with_ends p eb) t rt) end_words))
+          (subst (λ z. SameWords p A (sent (with_ends p ea) (who_runs p s.machine) p.counts.channels (ended p s).now.words) z) (sym e)
+          (sent_alike p ea eb A closed (who_runs p s.machine) p.counts.channels (ended p s).now.words (ended p t).now.words (omega arith) (end_facts bytes (with_ends p ea) s rs) (end_facts bytes (with_ends p eb) t rt) end_words))
 
       ran_alike : Agree p A (after_slot (with_ends p ea) s) (after_slot (with_ends p eb) t)
       ran_alike = record {
@@ -122,14 +116,14 @@ module _ (bytes : List ℕ) (p : Plan) (ea eb : List Ends) (A : ℕ → Type 0) 
       }
 
     reports : SameReport p A s t
-    unfolding slot_report
+    unfolding slot_report inside_after
     reports member =
-        let z = steps member (coming p s.machine).length in
+        let z = steps (coming p s.machine).length member in
         let e : ended p t ≡ inside_after p t (coming p s.machine).length = same_ended in
-        let told : report_of p t (ended p t) ≡ report_of p s (ended p s) =
-        same_told t.machine.turn s.machine.turn (who_runs p t.machine) (who_runs p s.machine) t.machine.clock s.machine.clock (ended p t) (ended p s) same.turn same_who same.clock
-        (ap (λ x. x.clock) e ∙ z.clock) (ap (λ x. x.instructions) e ∙ z.instructions) (ap (λ x. x.context) e ∙ z.context) in
-        ap (λ c. cond c (Some (report_of p t (ended p t))) None) same_can ∙ ap (λ r. cond (can_run p s.machine) (Some r) None) told
+        let told : report_of t.machine (ended p t) ≡ report_of s.machine (ended p s) =
+        same_told t.machine s.machine (ended p t) (ended p s) same.turn same.clock (ap (λ x. x.who) e ∙ z.who)
+        (ap (λ x. x.now.core.clock) e ∙ z.clock) (ap (λ x. x.now.instructions) e ∙ z.instructions) (ap (λ x. x.now.core.context) e ∙ z.context) in
+        ap (λ c. cond c (Some (report_of t.machine (ended p t))) None) same_can ∙ ap (λ r. cond (can_run p s.machine) (Some r) None) told
 
     record Both : Type 0 where
       here : BeforeSlot bytes (with_ends p ea) (after_slot (with_ends p ea) s)
@@ -187,6 +181,8 @@ less p A B s t inside same = record {
 
 less_inside : (p : Plan) (A B : ℕ → Type 0) (x y : Inside) → ((q : ℕ) → B q → A q) → SameInside p A x y → SameInside p B x y
 less_inside p A B x y inside same = record {
+  who = same.who;
+  under = same.under;
   context = same.context;
   tables = same.tables;
   clock = same.clock;
@@ -197,12 +193,12 @@ less_inside p A B x y inside same = record {
 -- the partitions that no row of flows leads to from one are a closed set
 pub not_reached : NotReached
 not_reached bytes a b q r s t none rs rt same =
-    let A : ℕ → Type 0 = λ x. RowOfFlows a.plan q x → ⊥ in
+    let A : ℕ → Type 0 = λ x. Path a.plan q x → ⊥ in
     let closed : Closed a.plan A = λ x y flow m way. m (goes_on x y way flow) in
-    let inside : (x : ℕ) → Only r x → A x = λ x e way. none (subst (RowOfFlows a.plan q) e way) in
-    let u = unseen_by bytes a b A s t closed rs rt (less a.plan (AllBut q) A s t (λ x m e. m (subst (RowOfFlows a.plan q) (sym e) stays)) same) in
+    let inside : (x : ℕ) → Only r x → A x = λ x e way. none (subst (Path a.plan q) e way) in
+    let u = unseen_by bytes a b A s t closed rs rt (less a.plan (AllBut q) A s t (λ x m e. m (subst (Path a.plan q) (sym e) stays)) same) in
     record {
       slots = λ n. less a.plan A (Only r) (after_slots a n s) (after_slots b n t) inside (u.slots n);
-      steps = λ n m k. less_inside a.plan A (Only r) _ _ inside (u.steps n (inside _ m) k);
+      steps = λ n k m. less_inside a.plan A (Only r) _ _ inside (u.steps n k (inside _ m));
       reports = λ n m. u.reports n (inside _ m);
     }

@@ -2,12 +2,13 @@
 use Rattle.std.specs.Prelude.{◌≡◌, ℕ, ◌<◌, Bool, true, List}
 use Rattle.words.specs.Frames.{word}
 use Rattle.plan.specs.declared.model.Plan.{Plan}
+use Rattle.plan.specs.Flows.{Closed, Path}
 use Rattle.checker.specs.declared.Accepted.{Accepted}
 use Rattle.checker.specs.Lawful.{root}
 use Rattle.kernel.specs.Inside.{Inside}
-use Rattle.kernel.specs.Machine.{System, after_slots, context_of, inside_after, who_runs}
+use Rattle.kernel.specs.Shim.{SameTraces}
+use Rattle.kernel.specs.Machine.{System, after_slots, context_of, ended, inside_after}
 use Rattle.kernel.specs.Reports.{slot_report}
-use Rattle.separation.specs.Flows.{Closed, RowOfFlows}
 use Rattle.paging.specs.Tables.{Owns}
 use Rattle.separation.specs.Running.{BeforeSlot}
 
@@ -15,30 +16,33 @@ use Rattle.separation.specs.Running.{BeforeSlot}
 abbrev pub SameWords : Plan → (ℕ → Type 0) → List ℕ → List ℕ → Type 0
 SameWords p A ws vs = (q f k : ℕ) → q < p.counts.partitions → A q → k < 1024 → Owns ws (root p q) f → word vs f k ≡ word ws f k
 
--- the contexts and the words of the members, the tables, the clock, and the slot to come. Of the others nothing is said: their programs, registers and words,
+-- the contexts and the words of the members, the traces in the tables, the clock, and the slot to come. Of the others nothing is said: their programs, registers and words,
 -- their page tables, which frames are whose, the frames that channels among them join, and how many frames are lent
 pub record Agree (p : Plan) (A : ℕ → Type 0) (s t : System) : Type 0 where
   pub contexts : (q : ℕ) → q < p.counts.partitions → A q → context_of t.machine q ≡ context_of s.machine q
   pub words : SameWords p A s.words t.words
-  pub tables : t.machine.tables ≡ s.machine.tables
+  pub tables : SameTraces t.machine.tables s.machine.tables
   pub clock : t.machine.clock ≡ s.machine.clock
   pub turn : t.machine.turn ≡ s.machine.turn
 
--- inside a slot: the same context, tables, clock and count of instructions, and the same words of the members
+-- inside a slot: the same partition runs, under the same root, with the same context, traces in the tables, clock and count of instructions, and the
+-- words of the members are the same
 pub record SameInside (p : Plan) (A : ℕ → Type 0) (x y : Inside) : Type 0 where
-  pub context : y.context ≡ x.context
-  pub tables : y.tables ≡ x.tables
-  pub clock : y.clock ≡ x.clock
-  pub instructions : y.instructions ≡ x.instructions
-  pub words : SameWords p A x.words y.words
+  pub who : y.who ≡ x.who
+  pub under : y.now.core.root ≡ x.now.core.root
+  pub context : y.now.core.context ≡ x.now.core.context
+  pub tables : SameTraces y.now.core.tables x.now.core.tables
+  pub clock : y.now.core.clock ≡ x.now.core.clock
+  pub instructions : y.now.instructions ≡ x.now.instructions
+  pub words : SameWords p A x.now.words y.now.words
 
--- in a slot of a member, after any number of steps
+-- after any number of steps of a slot, if a member runs then
 abbrev pub StepByStep : Plan → (ℕ → Type 0) → System → System → Type 0
-StepByStep p A s t = A (who_runs p s.machine) → (n : ℕ) → SameInside p A (inside_after p s n) (inside_after p t n)
+StepByStep p A s t = (n : ℕ) → A (inside_after p s n).who → SameInside p A (inside_after p s n) (inside_after p t n)
 
--- what is told of a member's slot is the same
+-- what is told of a slot at whose end a member runs is the same
 abbrev pub SameReport : Plan → (ℕ → Type 0) → System → System → Type 0
-SameReport p A s t = A (who_runs p s.machine) → slot_report p t ≡ slot_report p s
+SameReport p A s t = A (ended p s).who → slot_report p t ≡ slot_report p s
 
 -- after any number of slots the two agree on the set, in each slot of a member they go through the same states at the same readings of
 -- the clock, and what is told of the slot is the same
@@ -67,5 +71,5 @@ Only q r = r ≡ q
 -- if no row of flows leads from q to r, nothing of q is ever seen by r: two systems that differ in q alone agree on r forever
 abbrev pub NotReached : Type 0
 NotReached =
-    (bytes : List ℕ) (a b : Accepted) (q r : ℕ) (s t : System) → (RowOfFlows a.plan q r → ⊥) → BeforeSlot bytes a s → BeforeSlot bytes b t → Agree a.plan (AllBut q) s t →
+    (bytes : List ℕ) (a b : Accepted) (q r : ℕ) (s t : System) → (Path a.plan q r → ⊥) → BeforeSlot bytes a s → BeforeSlot bytes b t → Agree a.plan (AllBut q) s t →
     Unseen a.plan (Only r) a b s t

@@ -1,5 +1,4 @@
 -- The definitions of this crate.
-pub mod Flows
 pub mod Running
 pub mod Promises
 pub mod Agreement

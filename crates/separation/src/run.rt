@@ -1,31 +1,31 @@
-// A whole run, from bytes, words and a number of slots.
+// A whole run of an accepted plan, of so many slots.
 ghost use Rattle.std.specs.Prelude.{◌≡◌};
-ghost use Rattle.checker.specs.Checked.{checked};
-ghost use Rattle.separation.specs.Calls.{Runs, finished_with, words_with};
+ghost use Rattle.kernel.specs.Machine.{after_slots};
+ghost use Rattle.separation.specs.Calls.{Runs, finished, first};
 
-use crate::face::Kernel;
+use crate::supervisor::Supervisor;
+use checker::Accepted;
 use isa::decoder::Decoder;
 use kernel::report::Report;
-use plan::refusal::Refusal;
 
-// The kernel after its last slot, and the report of that slot.
+// The machine after its last slot, and the report of that slot.
 #[derive(Clone, Copy)]
 pub struct Finished {
-    pub kernel: Kernel,
+    pub supervisor: Supervisor,
     pub last: Option<Report>,
 }
 
-// Runs so many slots of the plan in the lent words; a refusal leaves every word as it was.
-pub fn run(bytes: &[u8], words: &mut [u32], count: u32) -> Result<Finished, Refusal>
-    ensures value { result ≡ finished_with words.old count (checked bytes.now words.old) }
-    ensures words { words.new ≡ words_with words.old count (checked bytes.now words.old) }
-    ensures promises { Runs bytes.now words.old count words.new result }
+// Runs so many slots of an accepted plan in the words that it was accepted with.
+pub fn run(accepted: Accepted, words: &mut [u32], count: u32) -> Finished
+    ensures value { result ≡ finished accepted words.old count }
+    ensures words { words.new ≡ (after_slots accepted count (first accepted words.old)).words }
+    ensures promises { Runs accepted words.old count words.new result }
 {
-    let mut kernel = Kernel::start(bytes, words)?;
+    let mut supervisor = Supervisor::start(accepted);
     let mut decoder = Decoder::new();
     let mut last = None;
     for _turn in 0..count {
-        last = kernel.run_slot(words, &mut decoder);
+        last = supervisor.run_slot(words, &mut decoder);
     }
-    Ok(Finished { kernel, last })
+    Finished { supervisor, last }
 }

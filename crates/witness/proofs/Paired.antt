@@ -6,10 +6,10 @@ use Rattle.paging.specs.Tables.{Owns}
 use Rattle.paging.proofs.Agree.{tables_way}
 use Rattle.hart.specs.Laws.{SameOwn, TablesApart}
 use Rattle.plan.specs.Format.{plan_of, rows}
-use Rattle.plan.specs.Rules.{channel}
+use Rattle.plan.specs.Flows.{Closed, Flows, Path, by_channel, stays, goes_on}
+use Rattle.plan.specs.Places.{channel}
 use Rattle.checker.specs.Lawful.{root}
 use Rattle.separation.specs.Agreement.{Agree, AllBut, In}
-use Rattle.separation.specs.Flows.{Closed, RowOfFlows, stays, goes_on}
 use Rattle.separation.specs.Running.{Running}
 use Rattle.separation.proofs.Calling.{running_first}
 use Rattle.separation.proofs.Facts.{Facts, facts}
@@ -39,14 +39,18 @@ two_partitions : (plan_of two).counts.partitions ≡ 2
 unfolding plan_of
 two_partitions = refl
 
--- from the second partition a row of flows leads nowhere else
-leads_nowhere : (r : ℕ) → RowOfFlows (plan_of two) 1 r → r ≡ 1
-leads_nowhere r stays = refl
-leads_nowhere r (goes_on q t row flow) =
-    let k : flow.number ≡ 0 = omega (arith, flow.exists, channels_1) in
-    sym flow.receives ∙ ap (λ i. (channel (plan_of two) i).receiver.partition) k ∙ to_second
+-- the one flow leads to the second partition
+leads_second : (q r : ℕ) → Flows (plan_of two) q r → r ≡ 1
+leads_second q r (by_channel k exists sends receives) =
+    let only : k ≡ 0 = omega (arith, exists, channels_1) in
+    sym receives ∙ ap (λ i. (channel (plan_of two) i).receiver.partition) only ∙ to_second
 
-no_row : RowOfFlows (plan_of two) 1 0 → ⊥
+-- from the second partition a row of flows leads nowhere else
+leads_nowhere : (r : ℕ) → Path (plan_of two) 1 r → r ≡ 1
+leads_nowhere r stays = refl
+leads_nowhere r (goes_on q t row flow) = leads_second q r flow
+
+no_row : Path (plan_of two) 1 0 → ⊥
 no_row row = absurd (let e = leads_nowhere 0 row in omega (arith, e))
 
 -- all but the second partition is the first alone
@@ -57,10 +61,7 @@ is_first q l m = elim (cases_eq q 0) [
 ]
 
 closed : Closed (plan_of two) (In first_alone)
-closed q r flow m =
-    let e = eqb-true r 0 m in
-    let k : flow.number ≡ 0 = omega (arith, flow.exists, channels_1) in
-    absurd (omega (arith, e, flow.receives, to_second, ap (λ i. (channel (plan_of two) i).receiver.partition) k))
+closed q r flow m = absurd (omega (arith, eqb-true r 0 m, leads_second q r flow))
 
 module _ (content other : ℕ → ℕ → ℕ) (code : (k : ℕ) → other 2 k ≡ content 2 k) (data_same : (k : ℕ) → other 6 k ≡ content 6 k) where
   one_runs : Running two (plan_in here content) (system_in here content)
@@ -110,7 +111,7 @@ module _ (content other : ℕ → ℕ → ℕ) (code : (k : ℕ) → other 2 k �
     agree = agree;
     tables_differ = differs content other;
     lent_differ = λ e. omega (arith, long here content, long there other, e);
-    flow = record { number = 0; exists = omega (arith, channels_1); sends = from_first; receives = to_second };
+    flow = by_channel 0 (omega (arith, channels_1)) from_first to_second;
     no_row = no_row;
     others_agree = others_agree;
     apart = apart;

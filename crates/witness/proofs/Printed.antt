@@ -6,15 +6,15 @@ use Rattle.paging.specs.Entries.{flag}
 use Rattle.paging.specs.Walks.{walked}
 use Rattle.tables.specs.Tlb.{found, filled}
 use Rattle.plan.specs.Format.{plan_of, rows}
+use Rattle.plan.specs.Switch.{messages}
 use Rattle.checker.specs.Pages.{behind, end_frame, ends_or_none, looked_up}
 use Rattle.hart.specs.Core.{executed, fetch_ran, load_ran, stepped, store_ran, word_ran}
-use Rattle.kernel.specs.Inside.{until}
+use Rattle.kernel.specs.Shim.{until}
 use Rattle.kernel.specs.Machine.{after_slot, after_slots, inside_after, slot_ran}
 use Rattle.kernel.specs.Reports.{slot_report}
-use Rattle.kernel.specs.Switch.{carried, delivered}
 use Rattle.sample.specs.Memory.{memory}
 use Rattle.witness.specs.Lines.{Lines}
 
 pub lines : Lines
-unfolding digits any count first most flag walked found filled plan_of rows behind end_frame ends_or_none looked_up executed fetch_ran load_ran stepped store_ran word_ran until after_slot after_slots inside_after slot_ran slot_report carried delivered memory
+unfolding digits any count first most flag walked found filled plan_of rows behind end_frame ends_or_none looked_up executed fetch_ran load_ran stepped store_ran word_ran until after_slot after_slots inside_after slot_ran slot_report messages memory
 lines = record { first = refl; second = refl; third = refl; stopped = refl }

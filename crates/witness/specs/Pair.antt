@@ -4,6 +4,7 @@ use Rattle.std.specs.Prelude.{◌≡◌, ℕ, ◌<◌, Bool, ◌≢◌, length, 
 use Rattle.words.specs.Frames.{word}
 use Rattle.paging.specs.Laws.{SameWay}
 use Rattle.hart.specs.Laws.{SameOwn, TablesApart}
+use Rattle.plan.specs.Flows.{Closed, Flows, Path}
 use Rattle.plan.specs.Format.{plan_of}
 use Rattle.checker.specs.declared.Accepted.{Accepted}
 use Rattle.checker.specs.Checked.{accepted}
@@ -11,7 +12,6 @@ use Rattle.checker.specs.Lawful.{root}
 use Rattle.kernel.specs.Machine.{System}
 use Rattle.separation.specs.Agreement.{Agree, AllBut, In, Unseen}
 use Rattle.separation.specs.Calls.{first}
-use Rattle.separation.specs.Flows.{Closed, Flows, RowOfFlows}
 use Rattle.separation.specs.Running.{Running}
 use Rattle.sample.specs.Memory.{Layout, memory, two}
 use Rattle.sample.specs.Verdicts.{here, there}
@@ -37,7 +37,7 @@ pub record Pair (content other : ℕ → ℕ → ℕ) : Type 0 where
   -- a flow leads from the first partition to the second, and yet nothing of the second is seen by the first
   pub flow : Flows (plan_of two) 0 1
   -- no row of flows leads back, and on all but the second partition the two agree
-  pub no_row : RowOfFlows (plan_of two) 1 0 → ⊥
+  pub no_row : Path (plan_of two) 1 0 → ⊥
   pub others_agree : Agree (plan_of two) (AllBut 1) (system_in here content) (system_in there other)
   -- the second names no frame of its own root and table; the two memories are the same in all that the first has, and so on the way of every page's walk
   pub apart : TablesApart (system_in here content).words (root (plan_of two) 1)

@@ -5,8 +5,9 @@ use Rattle.std.proofs.lemmas.Bool.{true≢false}
 use Rattle.std.proofs.lemmas.Result.{err_from_is_err_and}
 use Rattle.words.specs.First.{any}
 use Rattle.words.proofs.First.{any_none, any_same, any_step, checked_more, checked_stops, first_none}
-use Rattle.checker.specs.Marks.{Shows, kernel_test, named_by, named_through, names, names_in, pointed, points}
+use Rattle.checker.specs.Marks.{kernel_test, named_by, names, names_in, pointed, points}
 use Rattle.checker.specs.Tables.{entry_fault_at}
+use Rattle.checker.specs.Scaffold.{Shows, named_through}
 use Rattle.checker.proofs.Marked.{named_none}
 use Rattle.checker.proofs.tables.check_entries.Goals as goal
 

@@ -1,8 +1,9 @@
 -- What the loop of `check_entries` keeps.
 use Rattle.std.proofs.Common.{◌≡◌, None}
 use Rattle.words.specs.First.{any, first}
-use Rattle.checker.specs.Marks.{Shows, points}
-use Rattle.checker.specs.Tables.{Gathered, entry_fault_at}
+use Rattle.checker.specs.Marks.{points}
+use Rattle.checker.specs.Tables.{entry_fault_at}
+use Rattle.checker.specs.Scaffold.{Gathered, Shows}
 use Rattle.checker.proofs.tables.check_entries.Given as goal
 
 abbrev pub invariant-loop-k : goal.invariant-loop-k

@@ -2,8 +2,9 @@
 use Rattle.std.proofs.Common.{◌≡◌, None, ◌||◌, eqb, sym, ap, ◌∙◌, subst, inl, inr}
 use Rattle.std.proofs.lemmas.Bool.{eqb-true, or_cases}
 use Rattle.words.proofs.First.{unless_ok}
-use Rattle.checker.specs.Marks.{Shows, marked, names_in}
+use Rattle.checker.specs.Marks.{names_in}
 use Rattle.checker.specs.Tables.{table_fault}
+use Rattle.checker.specs.Scaffold.{Shows, marked}
 use Rattle.checker.proofs.Forms.{fault_none}
 use Rattle.checker.proofs.Marked.{named_more}
 use Rattle.checker.proofs.tables.check_unless_known.Goals as goal

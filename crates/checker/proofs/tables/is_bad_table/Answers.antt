@@ -4,8 +4,9 @@ use Rattle.paging.specs.Entries.{frame_of, is_valid}
 use Rattle.std.proofs.lemmas.Bool.{true≢false}
 use Rattle.words.proofs.First.{any_here, any_more, any_none}
 use Rattle.words.specs.First.{any}
-use Rattle.checker.specs.Marks.{Shows, marked, named_entry, names_in}
+use Rattle.checker.specs.Marks.{named_entry, names_in}
 use Rattle.checker.specs.Tables.{bad_leaf_at, bad_table}
+use Rattle.checker.specs.Scaffold.{Shows, marked}
 use Rattle.checker.proofs.Marked.{marks_more, marks_none}
 use Rattle.checker.proofs.tables.is_bad_table.Goals as goal
 

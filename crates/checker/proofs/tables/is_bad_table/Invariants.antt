@@ -1,8 +1,9 @@
 -- What the loop of `is_bad_table` keeps.
 use Rattle.std.proofs.Common.{◌≡◌, false, ◌||◌}
 use Rattle.words.specs.First.{any}
-use Rattle.checker.specs.Marks.{Shows, marked, named_entry}
+use Rattle.checker.specs.Marks.{named_entry}
 use Rattle.checker.specs.Tables.{bad_leaf_at}
+use Rattle.checker.specs.Scaffold.{Shows, marked}
 use Rattle.checker.proofs.tables.is_bad_table.Given as goal
 
 abbrev pub invariant-loop-k : goal.invariant-loop-k

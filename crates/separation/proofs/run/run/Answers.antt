@@ -1,38 +1,38 @@
 -- What is left to show of `run`.
-use Rattle.std.proofs.Common.{◌≡◌, refl, ap, ◌∙◌, arith}
+use Rattle.std.proofs.Common.{◌≡◌, ap, ◌∙◌, arith}
 use Rattle.checker.specs.declared.Accepted.{Accepted}
 use Rattle.kernel.specs.Machine.{after_slot}
 use Rattle.kernel.specs.Reports.{slot_report}
-use Rattle.separation.specs.Calls.{in_words, last_report}
-use Rattle.separation.proofs.Calling.{finished_promises, finished_value, finished_words, last_more, slots_more, slots_none}
+use Rattle.separation.specs.declared.supervisor.Supervisor.{Supervisor}
+use Rattle.separation.specs.Calls.{first, in_words}
+use Rattle.separation.proofs.Calling.{finished_promises, finished_value, last_more, last_none, slots_more, slots_none, system_then}
 use Rattle.separation.proofs.run.run.Goals as goal
 
 pub loop-turn-init : goal.loop-turn-init
-unfolding last_report
-loop-turn-init c = (slots_none _ _, refl, refl)
+loop-turn-init c =
+    let e = c.start-supervisor.ensures.value in
+    record { accepted = ap (λ (v : Supervisor). v.accepted) e; system = ap (λ (v : Supervisor). in_words v c.args.words.now) e ∙ slots_none _ _; last = last_none _ _ }
 
 pub loop-turn-preserved : goal.loop-turn-preserved
 loop-turn-preserved c =
-    let k = c.in_ok-kernel.kernel in
-    let now = in_words c.loop-turn.kernel c.loop-turn.words in
-    let start = in_words k c.args.words.now in
+    let a = c.args.accepted in
+    let now = in_words c.loop-turn.supervisor c.loop-turn.words in
+    let start = first a c.args.words.now in
     let e = c.run_slot-last.ensures in
-    let inv = c.loop-turn.invariant in (
-      slots_more k.accepted c.loop-turn._turn start now _ inv.0 (e.system ∙ ap (λ (a : Accepted). after_slot a now) inv.1),
-      e.accepted ∙ inv.1,
-      last_more k.accepted c.loop-turn._turn start now _ inv.0 (e.value ∙ ap (λ (a : Accepted). slot_report a.plan now) inv.1),
-    )
+    let inv = c.loop-turn.invariant in
+    record {
+      accepted = e.accepted ∙ inv.accepted;
+      system = slots_more a c.loop-turn._turn start now _ inv.system (e.system ∙ ap (λ (a : Accepted). after_slot a now) inv.accepted);
+      last = last_more a c.loop-turn._turn start now _ inv.system (e.value ∙ ap (λ (a : Accepted). slot_report a.plan now) inv.accepted);
+    }
 
 pub returns : goal.returns
 returns c =
-    let bytes = c.args.bytes.now in
-    let words = c.args.words.now in
-    let start = c.in_ok-kernel.kernel in
     let l = c.loop-turn in
+    let i = l.invariant in
     let all : c.loop-turn._turn ≡ c.args.count = omega arith in
-    let starts_so = c.in_ok-kernel.ensures.value in
     record {
-      value = finished_value bytes words start l.kernel l.words c.args.count l._turn l.last starts_so all l.invariant.0 l.invariant.1 l.invariant.2;
-      words = finished_words bytes words start l.kernel l.words c.args.count l._turn l.last starts_so all l.invariant.0 l.invariant.1 l.invariant.2;
-      promises = finished_promises bytes words start l.kernel l.words c.args.count l._turn l.last starts_so all l.invariant.0 l.invariant.1 l.invariant.2 (omega arith);
+      value = finished_value c.args.accepted c.args.words.now l.words l.supervisor c.args.count l._turn l.last all i.accepted i.system i.last;
+      words = ap (λ z. z.words) (system_then c.args.accepted c.args.words.now l.words l.supervisor c.args.count l._turn l.last all i.accepted i.system i.last);
+      promises = finished_promises c.args.accepted c.args.words.now l.words l.supervisor c.args.count l._turn l.last all i.accepted i.system i.last (omega arith);
     }

@@ -1,11 +1,12 @@
 -- What the loop of `run` keeps.
 use Rattle.std.proofs.Common.{◌≡◌}
 use Rattle.kernel.specs.Machine.{after_slots}
-use Rattle.separation.specs.Calls.{in_words, last_report}
+use Rattle.separation.specs.Calls.{first, in_words, last_report}
 use Rattle.separation.proofs.run.run.Given as goal
 
 abbrev pub invariant-loop-turn : goal.invariant-loop-turn
-invariant-loop-turn l =
-    (in_words l.kernel l.words ≡ after_slots l.initial.kernel.accepted l._turn (in_words l.initial.kernel l.initial.words))
-    × (l.kernel.accepted ≡ l.initial.kernel.accepted)
-    × (l.last ≡ last_report l.initial.kernel.accepted l._turn (in_words l.initial.kernel l.initial.words))
+invariant-loop-turn l = record {
+  accepted : l.supervisor.accepted ≡ l.fn.accepted;
+  system : in_words l.supervisor l.words ≡ after_slots l.fn.accepted l._turn (first l.fn.accepted l.initial.words);
+  last : l.last ≡ last_report l.fn.accepted l._turn (first l.fn.accepted l.initial.words);
+}

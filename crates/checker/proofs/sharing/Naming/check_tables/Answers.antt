@@ -2,10 +2,9 @@
 use Rattle.std.proofs.Common.{sym, ap, ◌∙◌}
 use Rattle.std.proofs.lemmas.Result.{err_from_is_err_and}
 use Rattle.words.proofs.First.{checked_more, checked_stops, first_none}
-use Rattle.checker.specs.Faults.{cleared}
-use Rattle.checker.specs.Marks.{Shows}
 use Rattle.checker.specs.Sharing.{kernel_at, named_at, share_refusal}
 use Rattle.checker.specs.Tables.{table_refusal}
+use Rattle.checker.specs.Scaffold.{Shows, cleared}
 use Rattle.checker.proofs.Shares.{first_after, joined_more, joined_none, shared_here}
 use Rattle.checker.proofs.sharing.Naming.check_tables.Goals as goal
 

@@ -1,21 +1,27 @@
--- Rules that are asked one after the other, in the order of their numbers, answer with the first finding.
+-- Rules that are asked one after the other answer with the first finding.
 -- A finding has a rule and a place, and says with which refusal the plan is refused.
-use Rattle.std.proofs.Common.{◌≡◌, ℕ, ◌<◌, ◌≤◌, Bool, true, false, Some, None, Decides, Option, sym, refl, ◌∙◌, subst, inl, inr, arith}
-use Rattle.std.proofs.lemmas.Bool.{cases_eq, cases_lt, both_ways}
+use Rattle.std.proofs.Common.{◌≡◌, ℕ, suc, ◌<◌, ◌≤◌, Bool, true, false, List, [], ◌∷◌, length, Some, None, Decides, Option, sym, refl, ◌∙◌, subst, inl, inr, arith}
+use Rattle.std.proofs.lemmas.Bool.{both_ways, cases_eq, cases_lt, eq-eqb, ne_eqb}
 use Rattle.std.specs.Option.{option_or}
 use Rattle.words.specs.First.{first}
-use Rattle.words.proofs.First.{or_none, or_some, first_is, none_below}
+use Rattle.words.proofs.First.{first_is, none_below, or_none, or_some}
 use Rattle.plan.specs.declared.refusal.Refusal.{Refusal}
-use Rattle.plan.specs.Lawful.{Earlier}
+use Rattle.plan.specs.Refused.{index_in}
 use Rattle.plan.specs.Rules.{broken_unless}
+use Rattle.plan.proofs.Decides.{failed, passed}
+use Rattle.checker.specs.Found.{Earlier}
 
-pub passed : (kept : Bool) (e : Refusal) → broken_unless kept e ≡ None → kept ≡ true
-passed true e h = refl
-passed false e h = absurd (cc)
+place_here : (ns : List ℕ) (n m : ℕ) → n ≡ m → index_in (n ∷ ns) m ≡ 0
+unfolding index_in
+place_here ns n m e = rw (eq-eqb n m e) refl
 
-pub failed : (kept : Bool) (e d : Refusal) → broken_unless kept e ≡ Some d → (kept ≡ false) × (d ≡ e)
-failed true e d h = absurd (cc)
-failed false e d h = (refl, cc)
+place_later : (ns : List ℕ) (n m : ℕ) → (n ≡ m → ⊥) → index_in (n ∷ ns) m ≡ suc (index_in ns m)
+unfolding index_in
+place_later ns n m e = rw (ne_eqb n m e) refl
+
+or_nothing : {X : Type 0} (o : Option X) → option_or o None ≡ o
+or_nothing None = refl
+or_nothing (Some x) = refl
 
 module _ {F : Type 0} (rule place : F → ℕ) (says : F → Refusal) (Found : F → Type 0) where
   -- the answer of one rule, whose number is n
@@ -23,49 +29,52 @@ module _ {F : Type 0} (rule place : F → ℕ) (says : F → Refusal) (Found : F
     pub kept : s ≡ None → (d : F) → rule d ≡ n → Found d → ⊥
     pub broken : (e : Refusal) → s ≡ Some e → (f : F) × (says f ≡ e) × Found f × (rule f ≡ n) × ((d : F) → rule d ≡ n → Found d → place f ≤ place d)
 
-  -- the answer of all rules after number m
-  pub record After (s : Option Refusal) (m : ℕ) : Type 0 where
-    pub kept : s ≡ None → (d : F) → m < rule d → Found d → ⊥
-    pub broken : (e : Refusal) → s ≡ Some e → (f : F) × (says f ≡ e) × Found f × (m < rule f) × ((d : F) → m < rule d → Found d → Earlier rule place f d)
+  -- the answer of the rules with these numbers, asked in this order
+  pub record Asked (s : Option Refusal) (ns : List ℕ) : Type 0 where
+    pub kept : s ≡ None → (d : F) → index_in ns (rule d) < length ns → Found d → ⊥
+    pub broken : (e : Refusal) → s ≡ Some e →
+        (f : F) × (says f ≡ e) × Found f × ((d : F) → index_in ns (rule d) < length ns → Found d → Earlier (λ x. index_in ns (rule x)) place f d)
+
+  nothing : Asked None []
+  nothing = record { kept = λ e d l b. omega (arith, l); broken = λ e h. absurd (cc) }
 
   -- a rule before others, which may count on it
-  pub chain : (s r : Option Refusal) (m n : ℕ) → m < n → ((d : F) → m < rule d → Found d → n ≤ rule d) →
-      Stage s n → (s ≡ None → After r n) → After (option_or s r) m
-  chain s r m n l gap here rest = record {
-    kept = λ e d h b. let z = or_none s r e in elim (cases_eq (rule d) n) [
-      | inl same ↦ here.kept z.0 d same b
-      | inr ne ↦ (rest z.0).kept z.1 d (let g = gap d h b in omega arith) b
+  pub chain : (s r : Option Refusal) (n : ℕ) (ns : List ℕ) → Stage s n → (s ≡ None → Asked r ns) → Asked (option_or s r) (n ∷ ns)
+  chain s r n ns here rest = record {
+    kept = λ e d h b. let z = or_none s r e in elim (cases_eq n (rule d)) [
+      | inl same ↦ here.kept z.0 d (sym same) b
+      | inr ne ↦ (rest z.0).kept z.1 d (omega (arith, h, place_later ns n (rule d) ne)) b
     ];
     broken = λ e h. elim (or_some s r e h) [
       | inl g ↦ let q = here.broken e g in (
         q.0,
         q.1,
         q.2,
-        omega (arith, q.3),
-        λ d k b. elim (cases_eq (rule d) n) [
-          | inl same ↦ inr (q.3 ∙ sym same, q.4 d same b)
-          | inr ne ↦ inl (let z = gap d k b in omega (arith, q.3))
+        λ d l b. elim (cases_eq n (rule d)) [
+          | inl same ↦ inr (place_here ns n (rule q.0) (sym q.3) ∙ sym (place_here ns n (rule d) same), q.4 d (sym same) b)
+          | inr ne ↦ inl (omega (arith, place_here ns n (rule q.0) (sym q.3), place_later ns n (rule d) ne))
         ],
       )
-      | inr g ↦ let q = (rest g.0).broken e g.1 in (
-        q.0,
-        q.1,
-        q.2,
-        omega (arith, q.3),
-        λ d k b. elim (cases_eq (rule d) n) [
-          | inl same ↦ absurd (here.kept g.0 d same b)
-          | inr ne ↦ q.4 d (let z = gap d k b in omega arith) b
-        ],
-      )
+      | inr g ↦ let q = (rest g.0).broken e g.1 in
+          let at = place_later ns n (rule q.0) (λ same. here.kept g.0 q.0 (sym same) q.2) in (
+            q.0,
+            q.1,
+            q.2,
+            λ d l b. elim (cases_eq n (rule d)) [
+              | inl same ↦ absurd (here.kept g.0 d (sym same) b)
+              | inr ne ↦ let there = place_later ns n (rule d) ne in
+                  elim (q.3 d (omega (arith, l, there)) b) [
+                    | inl before ↦ inl (omega (arith, at, there, before))
+                    | inr same ↦ inr (omega (arith, at, there, same.0), same.1)
+                  ]
+            ],
+          )
     ];
   }
 
   -- the last rule
-  pub last : (s : Option Refusal) (m n : ℕ) → m < n → ((d : F) → m < rule d → Found d → rule d ≡ n) → Stage s n → After s m
-  last s m n l only here = record {
-    kept = λ e d h b. here.kept e d (only d h b) b;
-    broken = λ e h. let q = here.broken e h in (q.0, q.1, q.2, omega (arith, q.3), λ d k b. inr (q.3 ∙ sym (only d k b), q.4 d (only d k b) b));
-  }
+  pub last : (s : Option Refusal) (n : ℕ) → Stage s n → Asked s (n ∷ [])
+  last s n here = subst (λ x. Asked x (n ∷ [])) (or_nothing s) (chain s None n [] here (λ _. nothing))
 
   -- a rule with one place
   pub single : (n : ℕ) (kept : Bool) (f : F) → rule f ≡ n → ((d : F) → rule d ≡ n → Found d → d ≡ f) →

@@ -1,33 +1,30 @@
-// A plan that was accepted, and the machine that runs it.
+// An accepted plan, and the machine that runs it.
 ghost use Rattle.std.specs.Prelude.{◌≡◌};
-ghost use Rattle.checker.specs.Checked.{checked};
 ghost use Rattle.kernel.specs.Machine.{after_slot};
 ghost use Rattle.kernel.specs.Reports.{slot_report};
-ghost use Rattle.separation.specs.Calls.{SlotKeeps, SlotUnseen, Starts, in_words, ready_with};
+ghost use Rattle.separation.specs.Calls.{SlotKeeps, SlotUnseen, Starts, in_words, ready};
 
-use checker::{Accepted, check};
+use checker::Accepted;
 use isa::decoder::Decoder;
 use kernel::machine::Machine;
 use kernel::report::Report;
-use plan::refusal::Refusal;
 
 #[derive(Clone, Copy)]
-pub struct Kernel {
+pub struct Supervisor {
     pub accepted: Accepted,
     pub machine: Machine,
 }
 
-impl Kernel {
-    // Ready to run the plan that the bytes say, or the refusal of the first rule that it or the lent words break.
-    pub fn start(bytes: &[u8], words: &[u32]) -> Result<Kernel, Refusal>
-        ensures value { result ≡ ready_with (checked bytes.now words.now) }
-        ensures verdict { Starts bytes.now words.now result }
+impl Supervisor {
+    // Ready to run a plan that was accepted. What the plan's words are to the checker stands in the promises: it is judged once, before.
+    pub fn start(accepted: Accepted) -> Supervisor
+        ensures value { result ≡ ready accepted }
+        ensures promises { Starts accepted result }
     {
-        let accepted = check(bytes, words)?;
-        Ok(Kernel {
+        Supervisor {
             accepted,
             machine: Machine::load(&accepted.plan),
-        })
+        }
     }
 
     // Runs the slot to come and the switch after it; none, and nothing changes, after 2^32 - 1 slots.
