@@ -1,10 +1,10 @@
 -- What a step keeps, with any tables.
-use Rattle.std.proofs.Common.{◌≡◌, ℕ, ◌/◌, ◌%◌, ◌≤◌, Bool, true, false, eqb, ◌⊎◌, List, length, ℤ, Some, None, Option, unwrap_or, sym, refl, ap, ◌∙◌, inl, inr, arith}
+use Rattle.std.proofs.Common.{◌≡◌, ℕ, ◌+◌, ◌/◌, ◌%◌, ◌≤◌, Bool, true, false, eqb, ◌⊎◌, List, length, ℤ, Some, None, Option, unwrap_or, sym, refl, ap, ◌∙◌, inl, inr, arith}
 use Rattle.std.proofs.lemmas.List.{length-set, length-replicate}
 use Rattle.std.proofs.lemmas.Bool.{cases_Bool, eqb-true}
 use Rattle.costs.specs.declared.used.CacheUse.TheVariants.{Unused}
 use Rattle.costs.specs.Costs.{worst_instruction}
-use Rattle.costs.specs.Cycles.{cycles}
+use Rattle.costs.specs.Cycles.{cycles, walk_cycles}
 use Rattle.costs.proofs.Bounds.{bounds}
 use Rattle.words.specs.Frames.{word}
 use Rattle.isa.specs.declared.register.Register.{Register}
@@ -35,7 +35,7 @@ use Rattle.hart.specs.declared.step.Core.{Core}
 use Rattle.hart.specs.Architecture.{Outcome}
 use Rattle.hart.specs.Causes.{fault_cause, misaligned_cause}
 use Rattle.hart.specs.Execution.{branch_context, goes_on, misses_target, next_pc, register_set, stopped}
-use Rattle.hart.specs.Core.{Step, after_lookup, data_access, executed, fetch_step, instruction_step, leads_to, program_step, stepped, word_step}
+use Rattle.hart.specs.Core.{Step, after_lookup, data_access, executed, fetch_step, instruction_step, leads_to, program_step, stepped, with_fetch, word_step}
 use Rattle.hart.specs.Scaffold.{run_from}
 use Rattle.hart.specs.Steps.{SetOne, StayWhole, Steps, WholeTables, fetched}
 use Rattle.hart.proofs.Cases.{access_cases, by_state, fetch_cases}
@@ -264,30 +264,40 @@ pub step_honest : (core : Core) (ws : List ℕ) → Honest core.tables.tlb ws co
 unfolding stepped
 step_honest core ws = (program_kept core ws).honest
 
--- an access that walked nothing leaves the TLB as it was
-access_still : (core : Core) (ws : List ℕ) (access : Access) (bytes address : ℕ) (at : Place → Outcome) →
-    (data_access core ws access bytes address at).used.data_walked ≡ false → (data_access core ws access bytes address at).core.tables.tlb ≡ core.tables.tlb
-access_still core ws access bytes address at =
-    let still = unwalked_look core.tables.tlb (address / 4096) access (walked ws core.root (address / 4096)) in
-    access_cases (λ s. s.used.data_walked ≡ false → s.core.tables.tlb ≡ core.tables.tlb) core ws access bytes address at (λ _ _ _. still) (λ _ _. still) (λ _ _. refl)
+-- what an instruction does after its fetch: it fetches nothing, and where it walks nothing the TLB stays as it was
+record Quiet (core : Core) (s : Step) : Type 0 where
+  unfetched : s.used.fetch_walked ≡ false
+  still : s.used.data_walked ≡ false → s.core.tables.tlb ≡ core.tables.tlb
 
--- and so does an instruction
-executed_still : (core : Core) (ws : List ℕ) (d : Effect) → (executed core ws d).used.data_walked ≡ false → (executed core ws d).core.tables.tlb ≡ core.tables.tlb
-unfolding executed
-executed_still core ws (sets rd value) e = refl
-executed_still core ws (jumps rd target) e = refl
-executed_still core ws (branches taken target) e = refl
-executed_still core ws (loads width rd address) e = access_still core ws _ _ _ _ e
-executed_still core ws (stores width address value) e = access_still core ws _ _ _ _ e
+module _ (core : Core) (ws : List ℕ) where
+  access_quiet : (access : Access) (bytes address : ℕ) (at : Place → Outcome) → Quiet core (data_access core ws access bytes address at)
+  access_quiet access bytes address at =
+      let still = unwalked_look core.tables.tlb (address / 4096) access (walked ws core.root (address / 4096)) in
+      access_cases (Quiet core) core ws access bytes address at
+      (λ _ _ _. record { unfetched = refl; still = still }) (λ _ _. record { unfetched = refl; still = still }) (λ _. record { unfetched = refl; still = λ _. refl })
 
-instruction_still : (core : Core) (ws : List ℕ) (o : Option Instruction) →
-    (instruction_step core ws o).used.data_walked ≡ false → (instruction_step core ws o).core.tables.tlb ≡ core.tables.tlb
-instruction_still core ws None e = refl
-instruction_still core ws (Some i) e = executed_still core ws (effect_of i core.context.registers core.context.pc core.clock) e
+  executed_quiet : (d : Effect) → Quiet core (executed core ws d)
+  unfolding executed
+  executed_quiet (sets rd value) = record { unfetched = refl; still = λ _. refl }
+  executed_quiet (jumps rd target) = record { unfetched = refl; still = λ _. refl }
+  executed_quiet (branches taken target) = record { unfetched = refl; still = λ _. refl }
+  executed_quiet (loads width rd address) = access_quiet _ _ _ _
+  executed_quiet (stores width address value) = access_quiet _ _ _ _
+
+  instruction_quiet : (o : Option Instruction) → Quiet core (instruction_step core ws o)
+  instruction_quiet None = record { unfetched = refl; still = λ _. refl }
+  instruction_quiet (Some i) = executed_quiet (effect_of i core.context.registers core.context.pc core.clock)
+
+  word_quiet : (w : ℕ) → Quiet core (word_step core ws w)
+  unfolding word_step
+  word_quiet w = instruction_quiet (decoded w)
 
 pub unwalked : (core : Core) (ws : List ℕ) (frame : ℕ) → (run_from core ws frame).used.data_walked ≡ false → (run_from core ws frame).core.tables.tlb ≡ core.tables.tlb
-unfolding word_step
-unwalked core ws frame e = instruction_still core ws (decoded (word ws frame (core.context.pc % 4096 / 4))) e
+unwalked core ws frame = (word_quiet core ws (word ws frame (core.context.pc % 4096 / 4))).still
+
+-- the cycles of a fetch and of the rest
+pub took_fetch : (core : Core) (ws : List ℕ) (w : ℕ) (walked : Bool) → cycles (with_fetch walked (word_step core ws w)).used ≡ cycles (word_step core ws w).used + walk_cycles walked
+took_fetch core ws w walked = let none : walk_cycles (word_step core ws w).used.fetch_walked ≡ 0 = ap walk_cycles (word_quiet core ws w).unfetched in omega (arith, none)
 
 -- a load changes no word
 pub load_words : (core : Core) (ws : List ℕ) (width : LoadWidth) (rd : Register) (address : ℕ) → (executed core ws (loads width rd address)).words ≡ ws

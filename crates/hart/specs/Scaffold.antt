@@ -6,6 +6,9 @@ use Rattle.isa.specs.Effects.{effect_of}
 use Rattle.paging.specs.declared.access.Access.{Access}
 use Rattle.hart.specs.declared.context.Context.{Context}
 use Rattle.hart.specs.declared.step.Core.{Core}
+use Rattle.hart.specs.declared.execute.Took.{Took}
+use Rattle.costs.specs.declared.used.Used.{Used}
+use Rattle.costs.specs.Cycles.{cycles}
 use Rattle.hart.specs.Causes.{fault_cause}
 use Rattle.hart.specs.Execution.{stopped}
 use Rattle.hart.specs.Core.{Step, after_lookup, executed, word_step}
@@ -18,6 +21,10 @@ unless_fault x access (Some frame) = x
 
 abbrev pub faulted : Core → List ℕ → ℕ → Access → Option ℕ → Core
 faulted core ws address access frame = record (after_lookup core ws address access) { context = unless_fault core.context access frame }
+
+-- what the code tells of what was used
+abbrev pub took : Used → Took
+took used = record { cycles = cycles used; walked = used.data_walked }
 
 -- the word at the counter, in the frame that its page was found in
 abbrev pub run_from : Core → List ℕ → ℕ → Step

@@ -3,10 +3,11 @@ ghost use Rattle.std.specs.Prelude.{◌≡◌, ◌/◌, None, false};
 ghost use Rattle.std.specs.Option.{ForSome};
 ghost use Rattle.tables.specs.Tlb.{found, hit};
 ghost use Rattle.hart.specs.Core.{first_core, looked_up, word_step};
-ghost use Rattle.hart.specs.Scaffold.{faulted, run_from};
+ghost use Rattle.hart.specs.Scaffold.{faulted, run_from, took};
 
 use crate::cause::Cause;
 use crate::context::Context;
+use crate::execute::Took;
 use costs::used::Used;
 use isa::decoder::Decoder;
 use paging::access::Access;
@@ -39,11 +40,11 @@ impl Core {
 
     // The instruction at the counter, whose page is in a frame.
     #[tactic(auto, using(crate::proofs::Stepping::unwalked))]
-    pub(crate) fn run_in(&mut self, frame: u32, words: &mut [u32], decoder: &mut Decoder) -> Used
-        ensures used { result ≡ (run_from self.old words.old frame).used }
+    pub(crate) fn run_in(&mut self, frame: u32, words: &mut [u32], decoder: &mut Decoder) -> Took
+        ensures took { result ≡ took (run_from self.old words.old frame).used }
         ensures core { self.new ≡ (run_from self.old words.old frame).core }
         ensures words { words.new ≡ (run_from self.old words.old frame).words }
-        ensures still { result.data_walked ≡ false → self.new.tables.tlb ≡ self.old.tables.tlb }
+        ensures still { result.walked ≡ false → self.new.tables.tlb ≡ self.old.tables.tlb }
     {
         let word = frames::read(words, frame, self.context.pc % PAGE_BYTES / 4);
         self.run_word(word, words, decoder)
@@ -65,8 +66,8 @@ impl Core {
 
     // The instruction of a word that was fetched.
     #[tactic(auto, unfolding(crate::specs::Core::word_step))]
-    fn run_word(&mut self, word: u32, words: &mut [u32], decoder: &mut Decoder) -> Used
-        ensures used { result ≡ (word_step self.old words.old word).used }
+    fn run_word(&mut self, word: u32, words: &mut [u32], decoder: &mut Decoder) -> Took
+        ensures took { result ≡ took (word_step self.old words.old word).used }
         ensures core { self.new ≡ (word_step self.old words.old word).core }
         ensures words { words.new ≡ (word_step self.old words.old word).words }
     {
@@ -75,7 +76,7 @@ impl Core {
             Some(instruction) => self.execute(instruction, words),
             None => {
                 self.context.stop(Cause::IllegalInstruction);
-                Used::plain()
+                Took::new(Used::plain())
             }
         }
     }

@@ -10,7 +10,7 @@ ghost use Rattle.hart.specs.Moments.{run_until};
 ghost use Rattle.hart.specs.Scaffold.{faulted, moment};
 
 use crate::step::Core;
-use costs::used::Used;
+use costs::used::walk_cycles;
 use costs::{INSTRUCTION, WORST_INSTRUCTION};
 use isa::decoder::Decoder;
 use paging::access::Access;
@@ -103,33 +103,28 @@ impl Stepper {
         ensures core { self.new.core ≡ (on_time (fetch_step self.old.core words.old)).core }
         ensures words { words.new ≡ (fetch_step self.old.core words.old).words }
     {
-        let cycles = self.fetch_and_run(words).cycles();
+        let cycles = self.fetch_and_run(words);
         self.core.clock = self.core.clock.wrapping_add(u64::from(cycles));
         cycles
     }
 
     #[inline]
-    #[tactic(auto, unfolding(crate::specs::Core::fetch_step))]
-    fn fetch_and_run(&mut self, words: &mut [u32]) -> Used
-        ensures used { result ≡ (fetch_step self.old.core words.old).used }
+    #[tactic(auto, using(crate::proofs::Stepping::took_fetch), unfolding(crate::specs::Core::fetch_step))]
+    fn fetch_and_run(&mut self, words: &mut [u32]) -> u32
+        ensures cost { result ≡ cycles (fetch_step self.old.core words.old).used }
         ensures core { self.new.core ≡ (fetch_step self.old.core words.old).core }
         ensures words { words.new ≡ (fetch_step self.old.core words.old).words }
     {
         let found = self.fetch(words);
+        let walk = walk_cycles(found.walked);
         let Some(frame) = found.frame else {
-            return Used {
-                fetch_walked: found.walked,
-                ..Used::plain()
-            };
+            return INSTRUCTION + walk;
         };
-        let used = self.core.run_in(frame, words, &mut self.decoder);
-        if used.data_walked {
+        let took = self.core.run_in(frame, words, &mut self.decoder);
+        if took.walked {
             self.window = None;
         }
-        Used {
-            fetch_walked: found.walked,
-            ..used
-        }
+        took.cycles + walk
     }
 
     // Finds the frame of the page at the counter, as `Core::look_up` does.
