@@ -8,7 +8,7 @@ use Rattle.plan.specs.Format.{plan_of}
 use Rattle.plan.specs.Lawful.{PlanLawful}
 use Rattle.plan.specs.Rules.{ample, budget_fault, channel_fault, count_fault, slot_fault, start_fault, surplus, truncated}
 use Rattle.plan.specs.Timetable.{begins}
-use Rattle.plan.specs.Written.{a_channel, a_partition, a_slot, written}
+use Rattle.plan.specs.Written.{Writable, a_channel, a_partition, a_slot, written}
 
 -- two partitions with roots 0 and 1, slots of 128 cycles for the second and of another length for the first; left open are its budget,
 -- where the first one starts, and the channels
@@ -41,6 +41,7 @@ both_out = a_channel 0 0 1 0 ∷ a_channel 0 0 1 0 ∷ []
 
 pub record Example : Type 0 where
   pub written_so : example ≡ example_bytes
+  pub writable : Writable 800 (a_partition 0 0x10000 ∷ a_partition 1 0x10000 ∷ []) (a_slot 0 200 ∷ a_slot 1 128 ∷ []) []
   pub accepted : PlanLawful example
   -- 730 cycles are needed, so a budget of 729 is not enough
   pub needs : ample (plan_of example) ≡ 730
