@@ -5,7 +5,7 @@ use Rattle.plan.specs.Format.{plan_of}
 use Rattle.plan.specs.Lawful.{PlanLawful}
 use Rattle.plan.specs.Switch.{required_budget}
 use Rattle.plan.specs.Timetable.{begins}
-use Rattle.plan.specs.Written.{a_channel, a_partition, a_slot, written}
+use Rattle.plan.specs.Written.{Writable, a_channel, a_partition, a_slot, written}
 
 -- two partitions with roots 0 and 1 that start at 00010000, slots of 200 and 128 cycles; left open are the budget and the channels
 abbrev pub like : ℕ → List Channel → List ℕ
@@ -36,6 +36,7 @@ both_out = a_channel 0 0 1 0 ∷ a_channel 0 0 1 0 ∷ []
 -- whole verdicts, by the crate `sample`
 pub record Example : Type 0 where
   pub written_so : example ≡ example_bytes
+  pub writable : Writable 800 (a_partition 0 0x10000 ∷ a_partition 1 0x10000 ∷ []) (a_slot 0 200 ∷ a_slot 1 128 ∷ []) []
   pub accepted : PlanLawful example
   -- 730 cycles are required, with a channel each way 1,754, and with two out of one partition 2,778
   pub needs : required_budget (plan_of example) ≡ 730
