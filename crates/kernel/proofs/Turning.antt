@@ -1,5 +1,5 @@
 -- What the code of a slot answers is the slot as it is defined.
-use Rattle.std.proofs.Common.{◌≡◌, ℕ, ◌+◌, ◌-◌, ◌^◌, ◌<◌, true, ltb, List, set, Some, refl, subst, ap, arith}
+use Rattle.std.proofs.Common.{◌≡◌, ℕ, ◌+◌, ◌-◌, ◌^◌, ◌<◌, ◌≤◌, min, true, ltb, List, set, Some, refl, subst, ap, arith}
 use Rattle.std.proofs.lemmas.Bool.{and_from, lt-ltb}
 use Rattle.std.proofs.lemmas.Bool.Decides.{nat_tests}
 use Rattle.hart.specs.declared.step.Core.{Core}
@@ -11,7 +11,7 @@ use Rattle.kernel.specs.declared.machine.Machine.{Machine}
 use Rattle.kernel.specs.Inside.{Inside}
 use Rattle.kernel.specs.Machine.{after_slot, can_run, coming, core_for, ended, inside_after, slot_ran, switched, system, who_runs}
 use Rattle.kernel.specs.Reports.{report_of, slot_report}
-use Rattle.kernel.specs.Shim.{Moment, moment, until}
+use Rattle.hart.specs.Moments.{Moment, latest, run_until}
 use Rattle.kernel.specs.Switch.{delivered}
 
 pub can : (p : Plan) (m : Machine) (slot : Slot) → slot ≡ coming p m → slot.partition < 8 → m.turn + 1 < 2 ^ 32 → m.clock < 2 ^ 63 → can_run p m ≡ true
@@ -22,12 +22,13 @@ pub clock_below : (p : Plan) (m : Machine) → can_run p m ≡ true → m.clock 
 clock_below p m e = grind (arith, nat_tests, e)
 
 -- the steps of the slot, by the slot and the core that the code has made
-pub same_end : (p : Plan) (m : Machine) (ws : List ℕ) (slot : Slot) (core : Core) (stop : ℕ) → slot ≡ coming p m → core ≡ core_for p m slot.partition → stop ≡ m.clock + slot.length →
-    until stop (stop - core.clock) (moment core ws 0) ≡ (ended p (system m ws)).now
+pub same_end : (p : Plan) (m : Machine) (ws : List ℕ) (slot : Slot) (core : Core) (stop : ℕ) → slot ≡ coming p m → core ≡ core_for p m slot.partition → stop ≡ m.clock + slot.length → stop ≤ latest →
+    run_until stop core ws ≡ (ended p (system m ws)).now
 unfolding inside_after
-same_end p m ws slot core stop a b c =
+same_end p m ws slot core stop a b c early =
     let n : m.clock + slot.length - m.clock ≡ slot.length = omega arith in
-    rw (b, c, n, a) refl
+    let least : min stop latest ≡ stop = omega arith in
+    rw (least, b, c, n, a) refl
 
 module _ (a : Accepted) (m : Machine) (ws : List ℕ) (goes : can_run a.plan m ≡ true) (slot : Slot) (is : slot ≡ coming a.plan m) (x : Moment) (ends : x ≡ (ended a.plan (system m ws)).now) where
   all : record { who = slot.partition; now = x } ≡ ended a.plan (system m ws)

@@ -1,6 +1,6 @@
 -- A slot that goes on: a row of parts, today one. Who runs, and the moment that it is at.
 use Rattle.std.specs.Prelude.{ℕ}
-use Rattle.kernel.specs.Shim.{Moment, until}
+use Rattle.hart.specs.Moments.{Moment, until}
 
 pub record Inside : Type 0 where
   pub who : ℕ

@@ -1,5 +1,4 @@
 -- The definitions of this crate.
-pub mod Shim
 pub mod Inside
 pub mod Switch
 pub mod Machine

@@ -1,9 +1,10 @@
 -- The machine: how it starts, and what a slot makes of it.
 use Rattle.std.specs.Prelude.{ℕ, zero, suc, ◌+◌, ◌^◌, max, Bool, cond, ◌&&◌, List, nat_lt, slice_index_or, slice_set}
-use Rattle.tables.specs.First.{first_tables}
+use Rattle.tables.specs.First.{first_tables, flushed}
 use Rattle.hart.specs.declared.context.Context.{Context}
 use Rattle.hart.specs.declared.step.Core.{Core}
-use Rattle.hart.specs.Execution.{fresh}
+use Rattle.hart.specs.Execution.{begun, fresh}
+use Rattle.hart.specs.Moments.{begin}
 use Rattle.plan.specs.declared.model.Plan.{Plan}
 use Rattle.plan.specs.declared.model.Slot.{Slot}
 use Rattle.plan.specs.Format.{rows}
@@ -14,7 +15,6 @@ use Rattle.checker.specs.declared.Accepted.{Accepted}
 use Rattle.checker.specs.Lawful.{root}
 use Rattle.kernel.specs.declared.machine.Machine.{Machine}
 use Rattle.kernel.specs.Inside.{Inside, onward}
-use Rattle.kernel.specs.Shim.{begun, flushed}
 use Rattle.kernel.specs.Switch.{delivered, switch_work}
 
 abbrev pub fresh_at : Plan → ℕ → Context
@@ -52,10 +52,7 @@ core_for p m who = record { context = begun (context_of m who); tables = m.table
 
 -- the start of a slot: its partition runs
 abbrev pub entered : Plan → System → Inside
-entered p s = record {
-  who = who_runs p s.machine;
-  now = record { core = core_for p s.machine (who_runs p s.machine); words = s.words; instructions = 0 };
-}
+entered p s = record { who = who_runs p s.machine; now = begin (core_for p s.machine (who_runs p s.machine)) s.words }
 
 -- the slot after n of its steps; every step takes a cycle at least, so its length suffices
 unfoldable pub inside_after : Plan → System → ℕ → Inside

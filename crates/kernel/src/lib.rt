@@ -1,7 +1,6 @@
 // The kernel: slots by the plan, a switch after each, and messages over its channels.
 #![tactic(auto)]
 
-mod inside;
 mod line;
 pub mod machine;
 mod messages;

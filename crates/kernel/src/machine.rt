@@ -3,14 +3,12 @@ ghost use Rattle.std.specs.Prelude.{◌≡◌, ◌+◌, ◌-◌, ◌^◌, ◌<�
 ghost use Rattle.kernel.specs.Machine.{after_slot, core_for, loaded, switched, system};
 ghost use Rattle.kernel.specs.Reports.{slot_report};
 
-use crate::inside::run_until;
 use crate::messages::deliver;
 use crate::report::Report;
 use checker::Accepted;
 use hart::context::Context;
 use hart::step::Core;
 use hart::stepper::Stepper;
-use isa::decoder::Decoder;
 use plan::model::{MOST_PARTITIONS, Plan};
 use tables::Tables;
 use costs::WRITE_BACK;
@@ -43,13 +41,13 @@ impl Machine {
     }
 
     // Runs the slot to come, and the switch after it. None, and nothing changes, where the slot has no partition, or its number or the clock no room to grow.
-    // The decoder is no part of the machine: with any of them all is the same.
+    // The stepper is no part of the machine: with any of them all is the same.
     #[tactic(auto, unfolding(crate::specs::Machine::after_slot, crate::specs::Reports::slot_report))]
     pub fn run_slot(
         &mut self,
         accepted: &Accepted,
         words: &mut [u32],
-        decoder: &mut Decoder,
+        stepper: &mut Stepper,
     ) -> Option<Report>
         ensures value { result ≡ slot_report accepted.now.plan (system self.old words.old) }
         ensures machine { self.new ≡ (after_slot accepted.now (system self.old words.old)).machine }
@@ -60,9 +58,8 @@ impl Machine {
         if who >= MOST_PARTITIONS || self.turn == u32::MAX || self.clock >= LATEST {
             return None;
         }
-        let mut stepper = Stepper::new(self.core_for(&accepted.plan, slot.partition));
-        let stop = self.clock + u64::from(slot.length);
-        let instructions = run_until(&mut stepper, words, stop, decoder);
+        stepper.load(self.core_for(&accepted.plan, slot.partition));
+        let instructions = stepper.run_until(words, self.clock + u64::from(slot.length));
         let core = &stepper.core;
         self.contexts[who] = core.context;
         let report = Report {

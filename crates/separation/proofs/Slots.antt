@@ -21,7 +21,7 @@ use Rattle.checker.specs.Found.{Behind}
 use Rattle.checker.specs.Lawful.{root}
 use Rattle.hart.specs.Execution.{fresh}
 use Rattle.kernel.specs.Machine.{System, after_slot, can_run, coming, context_of, ended, entered, inside_after, slot_end, slot_ran}
-use Rattle.kernel.specs.Shim.{until}
+use Rattle.hart.specs.Moments.{begin, latest, until}
 use Rattle.kernel.specs.Switch.{ends_of, switch_work}
 use Rattle.kernel.proofs.Running.{until_least, until_most}
 use Rattle.kernel.proofs.Turning.{can, clock_below}
@@ -72,29 +72,29 @@ module _ (bytes : List ℕ) (a : Accepted) (s : System) (before : BeforeSlot byt
       }
 
   -- the program begins where it was
-  resumes : inside_after a.plan s 0 ≡ record { who = runs a s; now = record { core = record (entered a.plan s).now.core { tables = first_tables }; words = s.words; instructions = 0 } }
+  resumes : inside_after a.plan s 0 ≡ record { who = runs a s; now = begin (record (entered a.plan s).now.core { tables = first_tables }) s.words }
   unfolding inside_after until
-  resumes = ap (λ t. record { who = runs a s; now = record { core = record (entered a.plan s).now.core { tables = t }; words = s.words; instructions = 0 } }) before.tables
+  resumes = ap (λ t. record { who = runs a s; now = begin (record (entered a.plan s).now.core { tables = t }) s.words }) before.tables
 
   module _ (able : can_run a.plan s.machine ≡ true) where
     -- the clock has room for the slot
-    room : slot_end a.plan s.machine + worst_instruction < 2 ^ 64
-    room = omega (arith, clock_below a.plan s.machine able, known.timely.short s.machine.turn)
+    early : slot_end a.plan s.machine ≤ latest
+    early = omega (arith, clock_below a.plan s.machine able, known.timely.short s.machine.turn)
 
     goes_on : (n : ℕ) → GoesOn (slot_end a.plan s.machine) (inside_after a.plan s n) (inside_after a.plan s (n + 1))
     unfolding inside_after
     goes_on n =
         subst (λ k. GoesOn (slot_end a.plan s.machine) (inside_after a.plan s n) (inside_after a.plan s k)) (sym (add-one n))
-        (until_goes_on (slot_end a.plan s.machine) room n (entered a.plan s) (went n).good.honest)
+        (until_goes_on (slot_end a.plan s.machine) early n (entered a.plan s) (went n).good.honest)
 
     -- the slot goes on to its end, and with its switch takes as long as the budget allows
     reached : slot_end a.plan s.machine ≤ (ended a.plan s).now.core.clock
     unfolding inside_after
-    reached = until_least (slot_end a.plan s.machine) room (coming a.plan s.machine).length (entered a.plan s).now (omega arith)
+    reached = until_least (slot_end a.plan s.machine) early (coming a.plan s.machine).length (entered a.plan s).now (omega arith)
 
     past : (ended a.plan s).now.core.clock < slot_end a.plan s.machine + worst_instruction
     unfolding inside_after
-    past = until_most (slot_end a.plan s.machine) room (coming a.plan s.machine).length (entered a.plan s).now (omega arith)
+    past = until_most (slot_end a.plan s.machine) early (coming a.plan s.machine).length (entered a.plan s).now (omega arith)
 
     fits : (ended a.plan s).now.core.clock + switch_work a.plan (runs a s) (ended a.plan s).now.core.tables ≤ slot_end a.plan s.machine + a.plan.budget
     fits =
@@ -106,7 +106,7 @@ module _ (bytes : List ℕ) (a : Accepted) (s : System) (before : BeforeSlot byt
     unfolding inside_after
     progress ready =
         let n = (coming a.plan s.machine).length in
-        let c = until_counted (slot_end a.plan s.machine) room n (entered a.plan s).now ready in
+        let c = until_counted (slot_end a.plan s.machine) early n (entered a.plan s).now ready in
         omega (arith, c.paid, reached)
 
     after_is : after_slot a s ≡ slot_ran a s

@@ -1,5 +1,5 @@
 -- The steps of one slot: what they keep, what they leave alone, how long they take, and that two systems take them alike.
-use Rattle.std.proofs.Common.{◌≡◌, ℕ, zero, suc, ◌+◌, ◌*◌, ◌%◌, ◌^◌, ◌<◌, ◌≤◌, true, ◌≢◌, List, sym, refl, ap, ◌∙◌, subst, inl, inr, arith}
+use Rattle.std.proofs.Common.{◌≡◌, ℕ, zero, suc, ◌+◌, ◌*◌, ◌<◌, ◌≤◌, true, ◌≢◌, List, sym, refl, ap, ◌∙◌, subst, inl, inr, arith}
 use Rattle.std.proofs.lemmas.Bool.{cases_eq, cases_lt, le-ltb, lt-ltb}
 use Rattle.costs.specs.Costs.{worst_instruction}
 use Rattle.words.specs.Frames.{lent, word}
@@ -8,7 +8,7 @@ use Rattle.paging.proofs.Agree.{kernel_back, leaves_named, names_back, owns_back
 use Rattle.tables.specs.Honest.{Honest}
 use Rattle.hart.specs.declared.context.State.{State}
 use Rattle.hart.specs.declared.context.State.TheVariants.{Ready, Stopped}
-use Rattle.hart.specs.Core.{step_of}
+use Rattle.hart.specs.Core.{stepped}
 use Rattle.hart.specs.Laws.{SameOwn, TablesApart}
 use Rattle.hart.proofs.Agreeing.{agreement}
 use Rattle.hart.proofs.Honesty.{stays_honest}
@@ -19,8 +19,9 @@ use Rattle.plan.specs.declared.model.Plan.{Plan}
 use Rattle.checker.specs.Found.{Separate}
 use Rattle.checker.specs.Lawful.{root}
 use Rattle.kernel.specs.Inside.{Inside, onward}
-use Rattle.kernel.specs.Shim.{Moment, next, until}
-use Rattle.kernel.proofs.Running.{Moves, idles, moves, until_past, until_step}
+use Rattle.hart.specs.Moments.{Moment, latest, next, until}
+use Rattle.hart.proofs.Running.{idles, until_past, until_step}
+use Rattle.kernel.proofs.Running.{Moves, moves}
 use Rattle.separation.specs.Agreement.{SameInside, SameWords}
 use Rattle.separation.specs.Promises.{GoesOn}
 use Rattle.separation.proofs.Frames.{Kept, kept_none, kept_more, kept_lent, others_kept}
@@ -65,16 +66,16 @@ module _ (p : Plan) (who : ℕ) (kn : who < p.counts.partitions) where
 
   step_went : (m : Moment) → Good p who m → Went p who m (next m)
   step_went m g =
-      let w = writes_own m.core.context m.core.tables m.words m.core.root m.core.clock g.honest in
-      let s = steps m.core.context m.core.tables m.words m.core.root m.core.clock in
+      let w = writes_own m.core m.words g.honest in
+      let s = steps m.core m.words in
       let others : (f k : ℕ) → (Names m.words (root p who) f → ⊥) → k < 1024 → word (next m).words f k ≡ word m.words f k = λ f k ne. w.others f k (λ n. ne (subst (λ r. Names m.words r f) g.under n)) in
       let kept = others_kept p m.words (next m).words who kn g.sound.separate others s.as_many in
       record {
         good = record {
           sound = sound_kept p m.words (next m).words kept g.sound;
-          under = g.under;
-          honest = stays_honest m.core.context m.core.tables m.words m.core.root m.core.clock
-              (subst (TablesApart m.words) (sym g.under) (λ f n k. g.sound.separate.hidden who who f kn kn n k)) g.honest;
+          under = s.root ∙ g.under;
+          honest = subst (Honest (next m).core.tables.tlb (next m).words) (sym s.root)
+              (stays_honest m.core m.words (subst (TablesApart m.words) (sym g.under) (λ f n k. g.sound.separate.hidden who who f kn kn n k)) g.honest);
         };
         others = others;
         kept = kept;
@@ -109,18 +110,18 @@ module _ (p : Plan) (who : ℕ) (kn : who < p.counts.partitions) where
     step_alike : (x y : Inside) → Good p who x.now → Good p who y.now → SameInside p A x y → SameInside p A (record x { now = next x.now }) (record y { now = next y.now })
     step_alike x y gx gy same =
         let o = own x.now.words y.now.words gx.sound gy.sound same.words in
-        let s = sees_own x.now.core.context x.now.core.tables x.now.words y.now.words x.now.core.root x.now.core.clock gx.honest (subst (SameOwn x.now.words y.now.words) (sym gx.under) o) in
+        let s = sees_own x.now.core x.now.words y.now.words gx.honest (subst (SameOwn x.now.words y.now.words) (sym gx.under) o) in
         let wx = step_went x.now gx in
         let wy = step_went y.now gy in
-        let e : step_of y.now.core y.now.words ≡ step_of x.now.core y.now.words = rw (same.context, same.tables, same.under, same.clock) refl in
+        let core : y.now.core ≡ x.now.core = rw (same.context, same.tables, same.under, same.clock) refl in
+        let e : stepped y.now.core y.now.words ≡ stepped x.now.core y.now.words = ap (λ z. stepped z y.now.words) core in
+        let after : (next y.now).core ≡ (next x.now).core = ap (λ z. z.core) e ∙ s.core in
         record {
           who = same.who;
-          under = same.under;
-          context = ap (λ z. z.context) e ∙ s.context;
-          tables = ap (λ z. z.tables) e ∙ s.tables;
-          clock =
-              ap (λ c. (c + (step_of y.now.core y.now.words).cost) % 2 ^ 64) same.clock
-              ∙ ap (λ n. (x.now.core.clock + n) % 2 ^ 64) (ap (λ z. z.cost) e ∙ s.cost);
+          under = ap (λ z. z.root) after;
+          context = ap (λ z. z.context) after;
+          tables = ap (λ z. z.tables) after;
+          clock = ap (λ z. z.clock) after;
           instructions = rw (same.context, same.instructions) refl;
           words = λ q f k l m b o2.
               let before = owns_back x.now.words (next x.now).words (root p q) (wx.kept.tables q l) f o2 in
@@ -144,71 +145,70 @@ module _ (p : Plan) (who : ℕ) (kn : who < p.counts.partitions) where
     ]
 
 -- one step more is one at the end, as long as that is not reached
-module _ (stop : ℕ) where
+module _ (stop : ℕ) (early : stop ≤ latest) where
   until_last : (n : ℕ) (m : Moment) → (until stop n m).core.clock < stop → until stop (suc n) m ≡ next (until stop n m)
   unfolding until
-  until_last zero m l = until_step stop zero m l
+  until_last zero m l = until_step stop early zero m l
   until_last (suc n) m l = elim (cases_lt m.core.clock stop) [
     | inl b ↦
-        let e = until_step stop n m b in
-        until_step stop (suc n) m b ∙ until_last n (next m) (rw e at l) ∙ ap next (sym e)
-    | inr b ↦ absurd (omega (arith, b, l, ap (λ y. y.core.clock) (until_past stop (suc n) m b)))
+        let e = until_step stop early n m b in
+        until_step stop early (suc n) m b ∙ until_last n (next m) (rw e at l) ∙ ap next (sym e)
+    | inr b ↦ absurd (omega (arith, b, l, ap (λ y. y.core.clock) (until_past stop early (suc n) m b)))
   ]
 
   until_rests : (n : ℕ) (m : Moment) → stop ≤ (until stop n m).core.clock → until stop (suc n) m ≡ until stop n m
   unfolding until
-  until_rests zero m l = until_past stop 1 m l
+  until_rests zero m l = until_past stop early 1 m l
   until_rests (suc n) m l = elim (cases_lt m.core.clock stop) [
     | inl b ↦
-        let e = until_step stop n m b in
-        until_step stop (suc n) m b ∙ until_rests n (next m) (rw e at l) ∙ sym e
-    | inr b ↦ until_past stop (suc (suc n)) m b ∙ sym (until_past stop (suc n) m b)
+        let e = until_step stop early n m b in
+        until_step stop early (suc n) m b ∙ until_rests n (next m) (rw e at l) ∙ sym e
+    | inr b ↦ until_past stop early (suc (suc n)) m b ∙ sym (until_past stop early (suc n) m b)
   ]
 
-  module _ (room : stop + worst_instruction < 2 ^ 64) where
-    goes : (m : Moment) → m.core.clock < stop → Moves m
-    goes m l = moves m (omega (arith, room))
+  goes : (m : Moment) → m.core.clock < stop → Moves m
+  goes m l = moves m (omega arith)
 
-    pub until_goes_on : (n : ℕ) (x : Inside) → Honest (until stop n x.now).core.tables.tlb (until stop n x.now).words (until stop n x.now).core.root → GoesOn stop (onward stop n x) (onward stop (suc n) x)
-    until_goes_on n x honest =
-        let y = until stop n x.now in
-        let same = agreement y.core.context y.core.tables y.words y.core.root y.core.clock honest in
-        record {
-          who = refl;
-          executes = λ l ready. let e = until_last n x.now l in let g = goes y l in record {
-            context = ap (λ z. z.core.context) e ∙ same.context;
-            words = ap (λ z. z.words) e ∙ same.words;
-            tables = ap (λ z. z.core.tables) e;
-            clock = ap (λ z. z.core.clock) e ∙ g.by;
-            under = ap (λ z. z.core.root) e;
-            least = omega (arith, ap (λ z. z.core.clock) e, g.least);
-            most = omega (arith, ap (λ z. z.core.clock) e, g.most);
-            counted = ap (λ z. z.instructions) e ∙ (rw ready refl);
-          };
-          waits = λ l stopped. until_last n x.now l ∙ idles y (omega (arith, room)) stopped;
-          ends = λ l. ap (λ z. record { who = x.who; now = z }) (until_rests n x.now l);
-        }
+  pub until_goes_on : (n : ℕ) (x : Inside) → Honest (until stop n x.now).core.tables.tlb (until stop n x.now).words (until stop n x.now).core.root → GoesOn stop (onward stop n x) (onward stop (suc n) x)
+  until_goes_on n x honest =
+      let y = until stop n x.now in
+      let same = agreement y.core y.words honest in
+      record {
+        who = refl;
+        executes = λ l ready. let e = until_last n x.now l in let g = goes y l in record {
+          context = ap (λ z. z.core.context) e ∙ same.context;
+          words = ap (λ z. z.words) e ∙ same.words;
+          tables = ap (λ z. z.core.tables) e;
+          clock = ap (λ z. z.core.clock) e ∙ g.by;
+          under = ap (λ z. z.core.root) e ∙ (steps y.core y.words).root;
+          least = omega (arith, ap (λ z. z.core.clock) e, g.least);
+          most = omega (arith, ap (λ z. z.core.clock) e, g.most);
+          counted = ap (λ z. z.instructions) e ∙ (rw ready refl);
+        };
+        waits = λ l stopped. until_last n x.now l ∙ idles y stopped (omega arith);
+        ends = λ l. ap (λ z. record { who = x.who; now = z }) (until_rests n x.now l);
+      }
 
-    -- a program that is ready after a step was ready before it
-    ready_by : (m : Moment) (s : State) → m.core.context.state ≡ s → (next m).core.context.state ≡ Ready → s ≡ Ready
-    ready_by m Ready e h = refl
-    ready_by m (Stopped cause pc) e h =
-        sym e ∙ sym (ap (λ r. r.context.state) ((steps m.core.context m.core.tables m.words m.core.root m.core.clock).rests cause pc e)) ∙ h
+  -- a program that is ready after a step was ready before it
+  ready_by : (m : Moment) (s : State) → m.core.context.state ≡ s → (next m).core.context.state ≡ Ready → s ≡ Ready
+  ready_by m Ready e h = refl
+  ready_by m (Stopped cause pc) e h =
+      sym e ∙ sym (ap (λ s. s.core.context.state) ((steps m.core m.words).rests cause pc e)) ∙ h
 
-    -- each instruction of a program that stays ready takes at most the highest cost
-    pub record Counted (x y : Moment) : Type 0 where
-      pub was : x.core.context.state ≡ Ready
-      pub paid : y.core.clock + worst_instruction * x.instructions ≤ x.core.clock + worst_instruction * y.instructions
+  -- each instruction of a program that stays ready takes at most the highest cost
+  pub record Counted (x y : Moment) : Type 0 where
+    pub was : x.core.context.state ≡ Ready
+    pub paid : y.core.clock + worst_instruction * x.instructions ≤ x.core.clock + worst_instruction * y.instructions
 
-    pub until_counted : (n : ℕ) (m : Moment) → (until stop n m).core.context.state ≡ Ready → Counted m (until stop n m)
-    unfolding until
-    until_counted zero m ready = record { was = ready; paid = omega arith }
-    until_counted (suc n) m ready = elim (cases_lt m.core.clock stop) [
-      | inl b ↦
-          let t = lt-ltb m.core.clock stop b in
-          let z = until_counted n (next m) (rw t at ready) in
-          let was = ready_by m m.core.context.state refl z.was in
-          let one : (next m).instructions ≡ m.instructions + 1 = rw was refl in
-          rw t (record { was = was; paid = omega (arith, z.paid, one, (goes m b).most) })
-      | inr b ↦ let t = le-ltb m.core.clock stop b in rw t (record { was = rw t at ready; paid = omega arith })
-    ]
+  pub until_counted : (n : ℕ) (m : Moment) → (until stop n m).core.context.state ≡ Ready → Counted m (until stop n m)
+  unfolding until
+  until_counted zero m ready = record { was = ready; paid = omega arith }
+  until_counted (suc n) m ready = elim (cases_lt m.core.clock stop) [
+    | inl b ↦
+        let t = lt-ltb m.core.clock stop b in
+        let z = until_counted n (next m) (rw t at ready) in
+        let was = ready_by m m.core.context.state refl z.was in
+        let one : (next m).instructions ≡ m.instructions + 1 = rw was refl in
+        rw t (record { was = was; paid = omega (arith, z.paid, one, (goes m b).most) })
+    | inr b ↦ let t = le-ltb m.core.clock stop b in rw t (record { was = rw t at ready; paid = omega arith })
+  ]

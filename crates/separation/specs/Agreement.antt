@@ -6,7 +6,7 @@ use Rattle.plan.specs.Flows.{Closed, Path}
 use Rattle.checker.specs.declared.Accepted.{Accepted}
 use Rattle.checker.specs.Lawful.{root}
 use Rattle.kernel.specs.Inside.{Inside}
-use Rattle.kernel.specs.Shim.{SameTraces}
+use Rattle.tables.specs.First.{SameTraces}
 use Rattle.kernel.specs.Machine.{System, after_slots, context_of, ended, inside_after}
 use Rattle.kernel.specs.Reports.{slot_report}
 use Rattle.paging.specs.Tables.{Owns}

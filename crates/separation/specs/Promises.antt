@@ -1,6 +1,7 @@
 -- What is promised of every slot of an accepted plan, with any programs.
 use Rattle.std.specs.Prelude.{◌≡◌, ℕ, ◌+◌, ◌/◌, ◌^◌, ◌<◌, ◌≤◌, true, false, ◌≢◌, List, Contains}
 use Rattle.costs.specs.Costs.{worst_instruction}
+use Rattle.costs.specs.Cycles.{cycles}
 use Rattle.words.specs.Frames.{word}
 use Rattle.paging.specs.declared.leaf.Leaf.{Leaf}
 use Rattle.paging.specs.Mapping.{Maps}
@@ -8,7 +9,10 @@ use Rattle.paging.specs.Tables.{Names, Owns}
 use Rattle.tables.specs.First.{first_tables}
 use Rattle.tables.specs.Honest.{Honest}
 use Rattle.hart.specs.declared.context.State.TheVariants.{Ready}
-use Rattle.hart.specs.Execution.{is_ready}
+use Rattle.hart.specs.Architecture.{architecture}
+use Rattle.hart.specs.Core.{stepped}
+use Rattle.hart.specs.Execution.{begun, is_ready}
+use Rattle.hart.specs.Moments.{Moment}
 use Rattle.plan.specs.Places.{channel}
 use Rattle.plan.specs.Switch.{Copy, copies}
 use Rattle.checker.specs.declared.Accepted.{Accepted}
@@ -16,7 +20,6 @@ use Rattle.checker.specs.Found.{Behind}
 use Rattle.checker.specs.Lawful.{root}
 use Rattle.kernel.specs.Inside.{Inside}
 use Rattle.kernel.specs.Machine.{System, after_slot, coming, context_of, ended, inside_after, slot_end, who_runs}
-use Rattle.kernel.specs.Shim.{Moment, architecture, begun, cycles, stepped}
 use Rattle.kernel.specs.Switch.{ends_of, switch_work}
 use Rattle.separation.specs.Running.{Running}
 

@@ -5,7 +5,8 @@ ghost use Rattle.separation.specs.Calls.{Runs, finished, first};
 
 use crate::supervisor::Supervisor;
 use checker::Accepted;
-use isa::decoder::Decoder;
+use hart::step::Core;
+use hart::stepper::Stepper;
 use kernel::report::Report;
 
 // The machine after its last slot, and the report of that slot.
@@ -22,10 +23,10 @@ pub fn run(accepted: Accepted, words: &mut [u32], count: u32) -> Finished
     ensures promises { Runs accepted words.old count words.new result }
 {
     let mut supervisor = Supervisor::start(accepted);
-    let mut decoder = Decoder::new();
+    let mut stepper = Stepper::new(Core::new(0, 0));
     let mut last = None;
     for _turn in 0..count {
-        last = supervisor.run_slot(words, &mut decoder);
+        last = supervisor.run_slot(words, &mut stepper);
     }
     Finished { supervisor, last }
 }

@@ -5,7 +5,7 @@ ghost use Rattle.kernel.specs.Reports.{slot_report};
 ghost use Rattle.separation.specs.Calls.{SlotKeeps, SlotUnseen, Starts, in_words, ready};
 
 use checker::Accepted;
-use isa::decoder::Decoder;
+use hart::stepper::Stepper;
 use kernel::machine::Machine;
 use kernel::report::Report;
 
@@ -28,14 +28,14 @@ impl Supervisor {
     }
 
     // Runs the slot to come and the switch after it; none, and nothing changes, after 2^32 - 1 slots.
-    // The decoder is no part of the machine: with any of them all is the same.
-    pub fn run_slot(&mut self, words: &mut [u32], decoder: &mut Decoder) -> Option<Report>
+    // The stepper is no part of the machine: with any of them all is the same.
+    pub fn run_slot(&mut self, words: &mut [u32], stepper: &mut Stepper) -> Option<Report>
         ensures value { result ≡ slot_report self.old.accepted.plan (in_words self.old words.old) }
         ensures accepted { self.new.accepted ≡ self.old.accepted }
         ensures system { in_words self.new words.new ≡ after_slot self.old.accepted (in_words self.old words.old) }
         ensures promises { SlotKeeps self.old.accepted (in_words self.old words.old) (in_words self.new words.new) }
         ensures unseen { SlotUnseen self.old.accepted (in_words self.old words.old) (in_words self.new words.new) }
     {
-        self.machine.run_slot(&self.accepted, words, decoder)
+        self.machine.run_slot(&self.accepted, words, stepper)
     }
 }
