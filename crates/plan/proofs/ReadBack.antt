@@ -1,5 +1,5 @@
 -- What is written reads back.
-use Rattle.std.proofs.Common.{◌≡◌, ℕ, zero, suc, ◌+◌, ◌*◌, ◌/◌, ◌%◌, ◌^◌, ◌<◌, ◌≤◌, List, [], ◌∷◌, ◌++◌, length, get_or, add-one, add-zero, zero-add, sym, refl, ap, ◌∙◌, subst, arith}
+use Rattle.std.proofs.Common.{◌≡◌, ℕ, zero, suc, ◌+◌, ◌*◌, ◌/◌, ◌%◌, ◌^◌, ◌<◌, ◌≤◌, List, [], ◌∷◌, ◌++◌, length, get_or, add-one, add-zero, zero-add, refl, ap, ◌∙◌, subst, arith}
 use native.Mathlib.Nat.{mul-suc, pow-succ'}
 use Rattle.std.proofs.lemmas.Bool.{cond-true, lt-ltb}
 use Rattle.std.proofs.lemmas.List.{get_or_append_left, get_or-append-add, length-append}
@@ -7,8 +7,7 @@ use Rattle.words.specs.Bytes.{byte, number}
 use Rattle.plan.specs.declared.model.Partition.{Partition}
 use Rattle.plan.specs.declared.model.Slot.{Slot}
 use Rattle.plan.specs.declared.model.Channel.{Channel}
-use Rattle.plan.specs.Format.{channel_at, channels_from, channels_part, counts_of, no_channel, no_partition, no_slot, partition_at, partitions_from, plan_of, rows, slot_at, slots_from}
-use Rattle.plan.specs.Rules.{channel, partition, slot}
+use Rattle.plan.specs.Format.{channel_at, no_channel, no_partition, no_slot, partition_at, plan_of, slot_at}
 use Rattle.plan.specs.Written.{ChannelWritable, PartitionWritable, Reads, ReadsBack, SlotWritable, Writable, channel_bytes, in_bytes, partition_bytes, row_bytes, slot_bytes, written}
 use Rattle.plan.proofs.Rows.{rows_at}
 

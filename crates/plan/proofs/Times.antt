@@ -1,5 +1,5 @@
 -- Laws of the timetable.
-use Rattle.std.proofs.Common.{◌≡◌, ℕ, zero, suc, ◌+◌, ◌*◌, ◌%◌, ◌≤◌, List, add-zero, add-suc, arith}
+use Rattle.std.proofs.Common.{ℕ, zero, suc, ◌%◌, ◌≤◌, List, add-zero, add-suc, arith}
 use native.Mathlib.Nat.{add-mod_left}
 use Rattle.std.proofs.lemmas.Nat.{mod_below}
 use Rattle.plan.specs.declared.refusal.Count.TheVariants.{Slots}
