@@ -5,6 +5,7 @@ use Rattle.std.specs.Option.{option_or}
 use Rattle.words.specs.First.{any, count, first, most}
 use Rattle.words.proofs.First.{below_none, first_more, first_none}
 use Rattle.paging.specs.Tables.{KernelFrame, Names}
+use Rattle.plan.specs.Switch.{messages}
 use Rattle.plan.specs.declared.model.Channel.{Channel}
 use Rattle.plan.specs.declared.model.Plan.{Plan}
 use Rattle.plan.specs.declared.refusal.Refusal.{Refusal}
@@ -148,7 +149,7 @@ module _ (content : ℕ → ℕ → ℕ) (budget : ℕ) where
       refl
 
 pub own_rules : OwnRules
-unfolding first count most plan_of rows own checked first_refusal
+unfolding first most messages plan_of rows own checked first_refusal
 own_rules = record {
   enough = λ content. passes content (plan_with 730 []) (laid_rooted 730 0x10000 200 []) refl refl;
   not_enough = λ content. fails content (plan_with 729 []) (laid_rooted 729 0x10000 200 []) refl BudgetRule refl;
