@@ -158,13 +158,15 @@ fn reset(rt: HostRuntime) {
     for _ in 0..3 {
         assert!(rt; tables.tlb.find(&words, 0, 17, Access::Store).walked);
         assert_eq!(rt;
-            cycles(tables.cache.access(
-                Place {
-                    frame: 2,
-                    offset: 0,
-                },
-                true,
-            )),
+            cycles(
+                tables.cache.access(
+                    Place {
+                        frame: 2,
+                        offset: 0,
+                    },
+                    true,
+                )
+            ),
             21
         );
         assert_eq!(rt; tables.cache.dirty_lines(), 1);

@@ -4,7 +4,8 @@ use checker::Accepted;
 use checker::pages::Ends;
 use hart::cause::Cause;
 use hart::context::State;
-use isa::decoder::Decoder;
+use hart::step::Core;
+use hart::stepper::Stepper;
 use kernel::machine::Machine;
 use kernel::report::Report;
 use plan::model::{Channel, Counts, Endpoint, MOST_CHANNELS, Partition, Plan, Slot};
@@ -59,7 +60,7 @@ fn a_slot(rt: HostRuntime) -> Result<(), Fail> {
         let mut words = [0; 3072];
         lay_out_code(&mut words, code);
         let mut machine = Machine::load(&accepted.plan);
-        let report = machine.run_slot(&accepted, &mut words, &mut Decoder::new());
+        let report = machine.run_slot(&accepted, &mut words, &mut Stepper::new(Core::new(0, 0)));
         let report = report.ok_or("no slot")?;
         assert_eq!(rt; (report.begin, report.end), (0, 128));
         assert_eq!(rt; (report.instructions, report.pc), (instructions, START));
@@ -84,7 +85,7 @@ fn the_last_number_and_the_last_clock(rt: HostRuntime) {
         lay_out_code(&mut words, SPIN);
         let mut machine = Machine::load(&accepted.plan);
         (machine.turn, machine.clock) = (turn, clock);
-        let report = machine.run_slot(&accepted, &mut words, &mut Decoder::new());
+        let report = machine.run_slot(&accepted, &mut words, &mut Stepper::new(Core::new(0, 0)));
         assert_eq!(rt; report.is_some(), runs);
         assert_eq!(rt; (machine.turn, machine.clock), (next_turn, next_clock));
     }
@@ -95,7 +96,11 @@ fn a_slot_of_no_partition(rt: HostRuntime) {
     for (partition, runs) in [(7, true), (8, false), (255, false)] {
         let accepted = accepted(partition);
         let mut machine = Machine::load(&accepted.plan);
-        let report = machine.run_slot(&accepted, &mut [0; 1024], &mut Decoder::new());
+        let report = machine.run_slot(
+            &accepted,
+            &mut [0; 1024],
+            &mut Stepper::new(Core::new(0, 0)),
+        );
         assert_eq!(rt; report.is_some(), runs);
         assert_eq!(rt; machine.turn, u32::from(runs));
     }
@@ -111,7 +116,7 @@ fn messages(rt: HostRuntime) {
         write(&mut words, 3, 1023, 9);
         write(&mut words, 4, 0, 5);
         let mut machine = Machine::load(&accepted.plan);
-        let report = machine.run_slot(&accepted, &mut words, &mut Decoder::new());
+        let report = machine.run_slot(&accepted, &mut words, &mut Stepper::new(Core::new(0, 0)));
         assert_eq!(rt; report.is_some(), true);
         assert_eq!(rt; read(&words, 4, 1023), if arrives { 9 } else { 0 });
         assert_eq!(rt; read(&words, 4, 0), if arrives { 0 } else { 5 });

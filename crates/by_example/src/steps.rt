@@ -36,7 +36,10 @@ fn halves_of_the_clock(rt: HostRuntime) {
         core.clock = 0x5_0000_0007;
         stepper.load(core);
         assert_eq!(rt; stepper.step(&mut words), 31);
-        assert_eq!(rt; stepper.core.context.registers.read(Register::new(5)), value);
+        assert_eq!(rt;
+            stepper.core.context.registers.read(Register::new(5)),
+            value
+        );
     }
 }
 

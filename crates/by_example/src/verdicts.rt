@@ -6,7 +6,13 @@ use std::test::Fail;
 use words::frames::write;
 
 // The plan, but for the root of the second partition, and the channel's sender, receiver and the receiver's page.
-fn planned(heap: Global, root: u16, sender: u8, receiver: u8, page: u32) -> Result<Vec<u8>, AllocError> {
+fn planned(
+    heap: Global,
+    root: u16,
+    sender: u8,
+    receiver: u8,
+    page: u32,
+) -> Result<Vec<u8>, AllocError> {
     let mut draft = Draft::new(root, [200, 128], page);
     draft.channel.sender.partition = sender;
     draft.channel.receiver.partition = receiver;
@@ -83,7 +89,10 @@ fn layouts(rt: HostRuntime) -> Result<(), Fail> {
             flags,
         };
         let words = memory(rt.alloc(), layout, frames)?;
-        assert_eq!(rt; verdict(&planned(rt.alloc(), 3, 0, 1, 17)?, &words), expected);
+        assert_eq!(rt;
+            verdict(&planned(rt.alloc(), 3, 0, 1, 17)?, &words),
+            expected
+        );
     }
     Ok(())
 }

@@ -6,12 +6,12 @@ ghost use Rattle.kernel.specs.Reports.{slot_report};
 use crate::messages::deliver;
 use crate::report::Report;
 use checker::Accepted;
+use costs::WRITE_BACK;
 use hart::context::Context;
 use hart::step::Core;
 use hart::stepper::Stepper;
 use plan::model::{MOST_PARTITIONS, Plan};
 use tables::Tables;
-use costs::WRITE_BACK;
 
 // No slot begins once the clock has come to this.
 const LATEST: u64 = 1 << 63;

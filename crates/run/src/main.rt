@@ -5,7 +5,8 @@ use console::arguments::{arguments, at_most, file_name, is_word};
 use console::files::Files;
 use console::problem::{Problem, Program};
 use console::slots::Slots;
-use isa::decoder::Decoder;
+use hart::step::Core;
+use hart::stepper::Stepper;
 use kernel::report::Report;
 use separation::run::run as run_slots;
 use separation::supervisor::Supervisor;
@@ -65,8 +66,8 @@ fn print_slots(
     count: u32,
 ) -> io::Result<()> {
     let mut out = BufWriter::new(rt.alloc(), rt.stdout())?;
-    let mut decoder = Decoder::new();
-    let reports = iter::from_fn(|| supervisor.run_slot(lent, &mut decoder));
+    let mut stepper = Stepper::new(Core::new(0, 0));
+    let reports = iter::from_fn(|| supervisor.run_slot(lent, &mut stepper));
     for report in reports.take(count as usize) {
         writeln!(out, "{report}")?;
     }
