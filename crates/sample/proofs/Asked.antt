@@ -24,6 +24,7 @@ use Rattle.checker.proofs.Ended.{leads_looked, usable_end}
 use Rattle.checker.proofs.Forms.{formed_none}
 use Rattle.checker.proofs.Joined.{fit_none, joins_behind}
 use Rattle.checker.proofs.Staged.{root_decides}
+use Rattle.sample.proofs.Entries.{to_write}
 
 refuted : {P : Type 0} (t : Bool) → Decides t P → (P → ⊥) → t ≡ false
 refuted t d h = elim (cases_Bool t) [ inl e ↦ absurd (h (d.0 e)) | inr e ↦ e ]
@@ -52,9 +53,9 @@ module _ (ws : List ℕ) (p : Plan) where
   share_none ok k l h = rw ((apart_decides ws p k (λ q b. ok q (omega arith))).1 h) refl
 
   -- a page that may be written receives on nothing
-  pub written_end : (end : Endpoint) (f : ℕ) (x : Bool) → Leads ws (root p end.partition) end.page (record { frame = f; readable = true; writable = true; executable = x }) → end_frame ws p end true ≡ Err Broken
+  pub written_end : (end : Endpoint) (f : ℕ) → Leads ws (root p end.partition) end.page (to_write f) → end_frame ws p end true ≡ Err Broken
   unfolding end_frame
-  written_end end f x h = rw (leads_looked ws (root p end.partition) end.page _ h) refl
+  written_end end f h = rw (leads_looked ws (root p end.partition) end.page _ h) refl
 
   pub receiver_fault : (k f : ℕ) → Usable ws p (channel p k).sender false f → end_frame ws p (channel p k).receiver true ≡ Err Broken → ends_fault ws p k ≡ Some Broken
   unfolding ends_fault behind

@@ -32,11 +32,6 @@ module _ {p : Plan} {r : ℕ} (is : Rooted p r) where
   each_root P a b (suc zero) l = rw is.second b
   each_root P a b (suc (suc k)) l = absurd (omega (arith, is.both))
 
-  pub roots_fit : (ws : List ℕ) → 0 < r → r < 256 → length ws / 1024 ≤ 256 → (k : ℕ) → k < p.counts.partitions → RootFits ws p k
-  roots_fit ws some below few zero l = record { few = few; below = omega (arith, is.first); own = λ j b e. omega arith }
-  roots_fit ws some below few (suc zero) l = record { few = few; below = omega (arith, is.second); own = at_0 (λ j. root p j ≢ root p 1) (λ e. omega (arith, some, e, is.first, is.second)) }
-  roots_fit ws some below few (suc (suc k)) l = absurd (omega (arith, is.both))
-
 pub two_rooted : Rooted (plan_of two) 3
 unfolding plan_of rows
 two_rooted = record { both = refl; first = refl; second = refl }
@@ -64,8 +59,14 @@ module _ (l : Layout) (content : ℕ → ℕ → ℕ) where
   unfolding memory
   long = length-map-range_with_len (λ i. word_in l content (i / 1024) (i % 1024)) 0 (l.frames * 1024)
 
-  pub few_of : l.frames ≤ 256 → length (memory l content) / 1024 ≤ 256
-  few_of h = omega (arith, long)
+  pub roots : {p : Plan} {r : ℕ} → Rooted p r → 0 < r → r < 256 → l.frames ≤ 256 → (k : ℕ) → k < p.counts.partitions → RootFits (memory l content) p k
+  roots is some below few zero g = record { few = omega (arith, long, few); below = omega (arith, is.first); own = λ j b e. omega arith }
+  roots {p} is some below few (suc zero) g = record {
+    few = omega (arith, long, few);
+    below = omega (arith, is.second);
+    own = at_0 (λ j. root p j ≢ root p 1) (λ e. omega (arith, some, e, is.first, is.second));
+  }
+  roots is some below few (suc (suc k)) g = absurd (omega (arith, is.both))
 
   pub word_at : (f k : ℕ) → f < l.frames → k < 1024 → word (memory l content) f k ≡ word_in l content f k
   unfolding memory

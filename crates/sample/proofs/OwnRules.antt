@@ -13,7 +13,7 @@ use Rattle.sample.specs.Memory.{laid, memory}
 use Rattle.sample.specs.OwnRules.{OwnRules, both_out, each_way, plan_with}
 use Rattle.sample.specs.Verdicts.{here}
 use Rattle.sample.proofs.Asked.{frames_kept, own_refusal, two_apart}
-use Rattle.sample.proofs.Laid.{Rooted, few_of, formed, mapped_0, mapped_1, receives, roots_fit, sends}
+use Rattle.sample.proofs.Laid.{Rooted, formed, mapped_0, mapped_1, receives, roots, sends}
 use Rattle.sample.proofs.Refused.{here_tabled}
 use Rattle.sample.proofs.Tables.{leads_16, leads_17}
 use Rattle.sample.proofs.Verdicts.{all_apart, all_lent, here_fits, spread}
@@ -23,7 +23,7 @@ module _ (content : ℕ → ℕ → ℕ) (bytes : List ℕ) (is : Rooted (plan_o
   own_decides : first_refusal bytes (memory here content) (plan_of bytes) ≡ own_refusal bytes (plan_of bytes)
   own_decides =
       let ws = memory here content in
-      frames_kept bytes ws (plan_of bytes) pages (roots_fit is ws (omega arith) (omega arith) (few_of here content (omega arith))) (formed here content here_tabled is (omega arith))
+      frames_kept bytes ws (plan_of bytes) pages (roots here content is (omega arith) (omega arith) (omega arith)) (formed here content here_tabled is (omega arith))
       (all_apart here content is (spread here here_fits)) (all_lent here content is here_fits)
 
   passes : own_refusal bytes (plan_of bytes) ≡ None → checked bytes (memory here content) ≡ Ok (accepted (memory here content) (plan_of bytes))

@@ -23,7 +23,7 @@ use Rattle.checker.proofs.Leading.{named_leaf}
 use Rattle.sample.specs.Memory.{Layout, memory, two}
 use Rattle.sample.specs.Verdicts.{Refuses, crowded, forked, here, one_root, own, past, shared, short, tableless, turned, unjoined}
 use Rattle.sample.proofs.Asked.{answers, lent_refused, own_refusal, page_refused, receiver_fault, root_refused, share_refused, table_refused, taken_fault_at, written_end}
-use Rattle.sample.proofs.Laid.{Rooted, Tabled, at_0, each_root, few_of, first_fits, formed, lent_at, long, mapped_0, mapped_1, pages, receives, roots_fit, second_points, sends, there, two_rooted, word_at}
+use Rattle.sample.proofs.Laid.{Rooted, Tabled, at_0, each_root, first_fits, formed, lent_at, long, mapped_0, mapped_1, pages, receives, roots, second_points, sends, there, two_rooted, word_at}
 use Rattle.sample.proofs.Tables.{its_form, its_frames, its_kernel, leads_16, leads_17, names_16, not_valid}
 use Rattle.sample.proofs.Verdicts.{Spread, all_apart}
 
@@ -58,7 +58,7 @@ module _ (content : ℕ → ℕ → ℕ) where
       let p = plan_of turned in
       let sender : Usable ws p (channel p 0).sender false 7 = sends (leads_17 (mapped_1 here content here_tabled) (omega arith)) refl in
       page_refused turned ws p own_kept.1 0 Broken (omega arith) (λ j b. absurd (omega arith))
-      (receiver_fault ws p 0 7 sender (written_end ws p (channel p 0).receiver 6 false (leads_17 (mapped_0 here content (omega arith)) (omega arith))))
+      (receiver_fault ws p 0 7 sender (written_end ws p (channel p 0).receiver 6 (leads_17 (mapped_0 here content (omega arith)) (omega arith))))
 
   root_twice : checked one_root (memory here content) ≡ Err (RootRule 1)
   unfolding checked plan_of rows
@@ -67,7 +67,7 @@ module _ (content : ℕ → ℕ → ℕ) where
       let p = plan_of one_root in
       let m = mapped_0 here content (omega arith) in
       let joins : Joins ws p 0 (record { sender = 6; receiver = 2 }) = record { sender = sends (leads_17 m (omega arith)) refl; receiver = receives (leads_16 m (omega arith)) refl refl } in
-      let fits : RootFits ws p 0 = record { few = few_of here content (omega arith); below = omega arith; own = λ j b e. omega arith } in
+      let fits : RootFits ws p 0 = record { few = omega (arith, long here content); below = omega arith; own = λ j b e. omega arith } in
       root_refused one_root ws p own_kept.2 (at_0 (PagesFit ws p) (first_fits joins)) 1 (omega arith) (at_0 (RootFits ws p) fits) (λ f. f.own 0 (omega arith) refl)
 
   too_many : checked two (memory crowded content) ≡ Err (RootRule 0)
@@ -94,7 +94,7 @@ module _ (content : ℕ → ℕ → ℕ) where
   no_frame =
       let ws = memory past content in
       let p = plan_of two in
-      table_refused two ws p own_kept.0 (pages past content (grind arith)) (roots_fit two_rooted ws (omega arith) (omega arith) (few_of past content (omega arith))) 1 Broken (omega arith)
+      table_refused two ws p own_kept.0 (pages past content (grind arith)) (roots past content two_rooted (omega arith) (omega arith) (omega arith)) 1 Broken (omega arith)
       (at_0 (λ j. Formed ws (root p j)) (its_form (mapped_0 past content (omega arith)) (omega arith) (omega arith))) past_root
 
   -- the first partition is in conflict with none before it, itself included, whatever the plan says of the second
@@ -114,7 +114,7 @@ module _ (content : ℕ → ℕ → ℕ) where
   unfolding checked plan_of
   second_shares l h code few not_apart =
       let ws = memory l content in
-      share_refused two ws (plan_of two) own_kept.0 (pages l content h) (roots_fit two_rooted ws (omega arith) (omega arith) (few_of l content few)) (formed l content h two_rooted code) 1 (omega arith)
+      share_refused two ws (plan_of two) own_kept.0 (pages l content h) (roots l content two_rooted (omega arith) (omega arith) few) (formed l content h two_rooted code) 1 (omega arith)
       (at_0 (Apart ws (plan_of two)) (apart_0 l h.enough two_rooted)) not_apart
 
   -- the second names the first one's frame 2
@@ -138,7 +138,7 @@ module _ (content : ℕ → ℕ → ℕ) where
   mailbox_missing =
       let ws = memory short content in
       let h = short_spread.tabled in
-      lent_refused two ws (plan_of two) own_kept.0 (pages short content h) (roots_fit two_rooted ws (omega arith) (omega arith) (few_of short content (omega arith)))
+      lent_refused two ws (plan_of two) own_kept.0 (pages short content h) (roots short content two_rooted (omega arith) (omega arith) (omega arith))
       (formed short content h two_rooted (omega arith)) (all_apart short content two_rooted short_spread)
       (λ all. omega (arith, long short content, all 1 7 (omega arith) (named_leaf ws 3 17 _ (leads_17 (mapped_1 short content h) (omega arith)))))
 
@@ -162,7 +162,7 @@ module _ (content : ℕ → ℕ → ℕ) where
       let p = plan_of (unjoined 3) in
       let unread : TablesUnread ws 3 =
       TablesUnread.no_table 0 8 (omega arith) (second_points tableless content (omega arith)) (omega arith) (λ lent. omega (arith, long tableless content, lent)) (λ j b. absurd (omega arith)) in
-      table_refused (unjoined 3) ws p (own_kept.4 3) (λ k l. absurd (omega arith)) (roots_fit (unjoined_rooted 3 refl) ws (omega arith) (omega arith) (few_of tableless content (omega arith)))
+      table_refused (unjoined 3) ws p (own_kept.4 3) (λ k l. absurd (omega arith)) (roots tableless content (unjoined_rooted 3 refl) (omega arith) (omega arith) (omega arith))
       1 NotLent (omega arith) (at_0 (λ j. Formed ws (root p j)) (its_form (mapped_0 tableless content (omega arith)) (omega arith) (omega arith))) (forms.unread_unlent ws 3 unread)
 
   -- the first table as a root has no valid entry before its leaf at 16
@@ -178,7 +178,7 @@ module _ (content : ℕ → ℕ → ℕ) where
   leaf_in_root =
       let ws = memory here content in
       let p = plan_of (unjoined 1) in
-      table_refused (unjoined 1) ws p (own_kept.4 1) (λ k l. absurd (omega arith)) (roots_fit (unjoined_rooted 1 refl) ws (omega arith) (omega arith) (few_of here content (omega arith)))
+      table_refused (unjoined 1) ws p (own_kept.4 1) (λ k l. absurd (omega arith)) (roots here content (unjoined_rooted 1 refl) (omega arith) (omega arith) (omega arith))
       1 Broken (omega arith) (at_0 (λ j. Formed ws (root p j)) (its_form (mapped_0 here content (omega arith)) (omega arith) (omega arith))) leaf_at_16
 
   module _ (zeros : (k : ℕ) → content 2 k ≡ 0) where
@@ -202,7 +202,7 @@ module _ (content : ℕ → ℕ → ℕ) where
         let m = mapped_0 here content (omega arith) in
         let p = plan_of (unjoined 2) in
         let rooted = unjoined_rooted 2 refl in
-        share_refused (unjoined 2) ws p (own_kept.4 2) (λ k l. absurd (omega arith)) (roots_fit rooted ws (omega arith) (omega arith) (few_of here content (omega arith)))
+        share_refused (unjoined 2) ws p (own_kept.4 2) (λ k l. absurd (omega arith)) (roots here content rooted (omega arith) (omega arith) (omega arith))
         (each_root rooted (Formed ws) (its_form m (omega arith) (omega arith)) formed_2) 1 (omega arith) (at_0 (Apart ws p) (apart_0 here (omega arith) rooted))
         (λ apart. apart 0 (omega arith) (inr (2, names_16 m, inr (inl refl))))
 

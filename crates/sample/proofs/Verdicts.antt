@@ -4,7 +4,7 @@ use Rattle.words.specs.First.{first, most}
 use Rattle.paging.specs.Tables.{KernelFrame, Names}
 use Rattle.plan.specs.declared.model.Plan.{Plan}
 use Rattle.plan.specs.Format.{plan_of, rows}
-use Rattle.plan.specs.Switch.{messages, required_budget}
+use Rattle.plan.specs.Switch.{messages}
 use Rattle.plan.proofs.Decides.{kept_lawful}
 use Rattle.plan.proofs.Rows.{rows_at}
 use Rattle.checker.specs.Checked.{accepted}
@@ -14,7 +14,7 @@ use Rattle.checker.proofs.Joined as joined
 use Rattle.checker.proofs.Judged.{lawful_accepted}
 use Rattle.sample.specs.Memory.{Layout, memory, two}
 use Rattle.sample.specs.Verdicts.{Accepts, Examples, Fits, Stands, here, there}
-use Rattle.sample.proofs.Laid.{Rooted, Tabled, few_of, formed, joins, lent_at, mapped_0, mapped_1, pages, roots_fit, two_rooted}
+use Rattle.sample.proofs.Laid.{Rooted, Tabled, formed, joins, lent_at, mapped_0, mapped_1, pages, roots, two_rooted}
 use Rattle.sample.proofs.Tables.{its_frames, its_kernel}
 
 -- the second partition's pages are in no frame of the first, nor in a root or a table; they need not be lent
@@ -55,13 +55,16 @@ spread l h = record { tabled = tabled l h; code = (h.code.0, h.code.1); mailbox 
 pub all_lent : (l : Layout) (content : ℕ → ℕ → ℕ) {p : Plan} → Rooted p 3 → Fits l → AllLent (memory l content) p
 all_lent l content is h k f b n = let x = named_at l content is (tabled l h) k f b n in lent_at l content f (grind arith)
 
+pub channels_1 : (plan_of two).counts.channels ≡ 1
+unfolding plan_of
+channels_1 = refl
+
 module _ (l : Layout) (content : ℕ → ℕ → ℕ) (h : Fits l) where
   ends : get_or (accepted (memory l content) (plan_of two)).ends 0 no_ends ≡ record { sender = 6; receiver = l.mailbox }
   unfolding plan_of
   ends =
-      let one : (plan_of two).counts.channels ≡ 1 = refl in
       rows_at (ends_or_none (memory l content) (plan_of two)) no_ends 16 (plan_of two).counts.channels 0 (omega arith)
-      ∙ (rw one (joined.ends_kept (memory l content) (plan_of two) 0 (record { sender = 6; receiver = l.mailbox }) (joins l content (tabled l h))))
+      ∙ (rw channels_1 (joined.ends_kept (memory l content) (plan_of two) 0 (record { sender = 6; receiver = l.mailbox }) (joins l content (tabled l h))))
 
   stands : Stands l content
   unfolding first most messages plan_of rows
@@ -69,7 +72,7 @@ module _ (l : Layout) (content : ℕ → ℕ → ℕ) (h : Fits l) where
     verdict = lawful_accepted two (memory l content) (record {
       plan = kept_lawful two refl refl refl refl refl refl refl;
       pages = pages l content (tabled l h);
-      roots = roots_fit two_rooted (memory l content) (omega arith) (omega arith) (few_of l content h.few);
+      roots = roots l content two_rooted (omega arith) (omega arith) h.few;
       tables = formed l content (tabled l h) two_rooted (omega (arith, h.code.2, h.few));
       apart = none_shared l content two_rooted (spread l h);
       all_lent = all_lent l content two_rooted h;
