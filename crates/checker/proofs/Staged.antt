@@ -44,7 +44,7 @@ kinds_7 (broken e) r = inl (ap broken (at_number e 7 r))
 kinds_7 (pages_unread k) r = absurd (omega (arith, r))
 kinds_7 (tables_unread k) r = inr refl
 
-refused_none : (e : Refusal) (o : Option Fault) → refused_by e o ≡ None → o ≡ None
+pub refused_none : (e : Refusal) (o : Option Fault) → refused_by e o ≡ None → o ≡ None
 refused_none e o h = grind arith
 
 refused_some : (e d : Refusal) (o : Option Fault) → refused_by e o ≡ Some d → ((o ≡ Some RuleBroken) × (e ≡ d)) ⊎ ((o ≡ Some NotLent) × (FramesMissing ≡ d))
