@@ -11,7 +11,6 @@ use Rattle.checker.specs.declared.fault.Fault.TheVariants.{NotLent}
 use Rattle.checker.specs.declared.pages.Ends.{Ends}
 use Rattle.checker.specs.Pages.{behind, both_ends, end_frame, ends_or_none, meets, ends_fault, taken_fault, touch, touches}
 use Rattle.checker.specs.Lawful.{Joins, PagesFit, PagesUnread, Touch}
-use Rattle.checker.proofs.Forms.{faulty_none, faulty_unlent}
 use Rattle.checker.proofs.Ended.{end_unread, end_usable, unread_end, usable_end}
 
 both_ok : (r s : Result ℕ Fault) (a : Ends) → both_ends r s ≡ Ok a → (r ≡ Ok a.sender) × (s ≡ Ok a.receiver)
