@@ -1,6 +1,6 @@
 -- The checker's answer is the verdict that the rules ask for.
-use Rattle.std.proofs.Common.{◌≡◌, ℕ, ◌<◌, Bool, true, false, List, ◌∷◌, length, get_or, Some, None, Ok, Decides, Option, sym, refl, ◌∙◌, subst, inl, inr, arith}
-use Rattle.std.proofs.lemmas.Bool.{both_ways, cases_Bool, cases_eq, cases_lt, cond-true, lt-ltb}
+use Rattle.std.proofs.Common.{◌≡◌, ℕ, ◌<◌, Bool, true, false, List, ◌∷◌, get_or, Some, None, Ok, Option, sym, refl, ◌∙◌, subst, inl, inr, arith}
+use Rattle.std.proofs.lemmas.Bool.{cases_eq, cases_lt, cond-true, lt-ltb}
 use Rattle.std.proofs.lemmas.Result.{MatchResult-at_ok}
 use Rattle.std.specs.Option.{option_or}
 use Rattle.words.specs.First.{first}
@@ -13,21 +13,18 @@ use Rattle.plan.specs.declared.model.Endpoint.{Endpoint}
 use Rattle.plan.specs.declared.refusal.Count.TheVariants.{Channels}
 use Rattle.plan.specs.declared.refusal.Refusal.{Refusal}
 use Rattle.plan.specs.declared.refusal.Refusal.TheVariants.{Truncated, CountRange, SlotRule, ChannelRule, ChannelPage, RootRule, TableMalformed, FrameShared, StartMisaligned, BudgetRule, FramesMissing, Surplus}
-use Rattle.plan.specs.Format.{plan_of, plan_size}
-use Rattle.plan.specs.Lawful.{PlanLawful}
+use Rattle.plan.specs.Format.{plan_of}
 use Rattle.plan.specs.Refused.{Ranked, turns}
 use Rattle.plan.specs.Rules.{budget_fault, channel, channel_fault, count_fault, slot_fault, start_fault, surplus, truncated}
 use Rattle.plan.proofs.Decides.{all_ranked, kept_lawful, passed}
 use Rattle.plan.proofs.Rows.{rows_at}
 use Rattle.checker.specs.declared.Accepted.{Accepted}
-use Rattle.checker.specs.declared.fault.Fault.{Fault}
-use Rattle.checker.specs.declared.fault.Fault.TheVariants.{Broken as RuleBroken, NotLent}
 use Rattle.checker.specs.Checked.{accepted, checked, first_refusal}
 use Rattle.checker.specs.Pages.{ends_fault, ends_or_none, ends_refusal, no_ends}
 use Rattle.checker.specs.Roots.{root_refusal}
 use Rattle.checker.specs.Sharing.{lent_refusal, share_refusal}
 use Rattle.checker.specs.Tables.{table_refusal}
-use Rattle.checker.specs.Lawful.{Apart, Formed, Leads, PagesFit, Usable, root}
+use Rattle.checker.specs.Lawful.{Apart, Leads, Usable, root}
 use Rattle.checker.specs.Found.{AcceptedSeparate, AcceptedUnshared, Behind, ChannelJoins, Finding, FirstFound, Found, Judges, Lawful, Separate, Sound, found_at, refusal_of, rule_of}
 use Rattle.checker.specs.Found.Finding.{broken, pages_unread, tables_unread}
 use Rattle.checker.proofs.Chain.{Asked, chain, last}
@@ -97,11 +94,11 @@ module _ (bytes words : List ℕ) where
   none_lawful none =
       let p = plan_of bytes in
       let n = all_none (truncated bytes p) (first (count_fault p.counts) 3) (first (slot_fault p) p.counts.slots) (first (channel_fault p) p.counts.channels)
-          (first (ends_refusal words p) p.counts.channels) (first (root_refusal words p) p.counts.partitions) (first (table_refusal words p) p.counts.partitions)
-          (first (share_refusal words p) p.counts.partitions) (first (start_fault p) p.counts.partitions) (budget_fault p) (lent_refusal words p) (surplus bytes p) none in
+      (first (ends_refusal words p) p.counts.channels) (first (root_refusal words p) p.counts.partitions) (first (table_refusal words p) p.counts.partitions)
+      (first (share_refusal words p) p.counts.partitions) (first (start_fault p) p.counts.partitions) (budget_fault p) (lent_refusal words p) (surplus bytes p) none in
       let tables = all_formed bytes words n.6 in
       let apart : (k : ℕ) → k < p.counts.partitions → Apart words p k = λ k l.
-          (apart_decides words p k (λ q h. tables q (omega arith))).0 (passed _ _ (none_below (share_refusal words p) p.counts.partitions n.7 k l)) in
+      (apart_decides words p k (λ q h. tables q (omega arith))).0 (passed _ _ (none_below (share_refusal words p) p.counts.partitions n.7 k l)) in
       record {
         plan = kept_lawful bytes n.0 n.1 n.2 n.3 n.8 n.9 n.11;
         pages = λ k l. joined.none_fit words p k (refused_none (ChannelPage k) (ends_fault words p k) (none_below (ends_refusal words p) p.counts.channels n.4 k l));

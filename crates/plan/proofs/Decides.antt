@@ -1,6 +1,6 @@
 -- What number and turn say of a refusal, and what the tests of the plan's own rules say of the plan.
-use Rattle.std.proofs.Common.{◌≡◌, ℕ, zero, suc, ◌+◌, ◌<◌, ◌≤◌, Bool, true, false, List, get_or, None, Some, Decides, sym, refl, ap, ◌∙◌, subst, inl, inr, arith}
-use Rattle.std.proofs.lemmas.Bool.{cases_eq, leb-true}
+use Rattle.std.proofs.Common.{◌≡◌, ℕ, zero, suc, ◌+◌, ◌<◌, ◌≤◌, Bool, true, false, List, get_or, None, Some, Decides, sym, ap, ◌∙◌, subst, arith}
+use Rattle.std.proofs.lemmas.Bool.{leb-true}
 use Rattle.std.proofs.lemmas.Bool.Decides.{nat_tests}
 use Rattle.costs.specs.Costs.{worst_switch}
 use Rattle.words.specs.First.{first, most}
@@ -9,7 +9,7 @@ use Rattle.plan.specs.declared.model.Plan.{Plan}
 use Rattle.plan.specs.declared.refusal.Count.{Count}
 use Rattle.plan.specs.declared.refusal.Count.TheVariants.{Partitions, Slots, Channels}
 use Rattle.plan.specs.declared.refusal.Refusal.{Refusal}
-use Rattle.plan.specs.declared.refusal.Refusal.TheVariants.{Truncated, CountRange, SlotRule, ChannelRule, ChannelPage, RootRule, TableMalformed, FrameShared, StartMisaligned, BudgetRule, FramesMissing, Surplus}
+use Rattle.plan.specs.declared.refusal.Refusal.TheVariants.{CountRange}
 use Rattle.plan.specs.Format.{plan_of}
 use Rattle.plan.specs.Refused.{AllRanked, Named, RankTells, Ranked, count_at, count_place, number_of, index_in, place_of, rank, refusal, turns}
 use Rattle.plan.specs.Rules.{broken_unless, budget_fault, budget_kept, channel_fault, channel_kept, count_fault, count_kept, slot_fault, slot_kept, start_fault, start_kept, surplus, truncated}
