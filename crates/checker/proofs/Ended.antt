@@ -2,7 +2,7 @@
 use Rattle.std.proofs.Common.{◌≡◌, ℕ, ◌+◌, ◌*◌, ◌/◌, ◌%◌, ◌<◌, Bool, true, false, cond, not, ◌&&◌, ltb, ◌⊎◌, List, Some, None, Ok, Err, Option, Result, sym, refl, ap, subst, inl, inr, arith}
 use Rattle.std.proofs.lemmas.Nat.{mod_below}
 use Rattle.std.proofs.lemmas.Bool.Decides.{nat_tests}
-use Rattle.std.proofs.lemmas.Bool.{lt-ltb, ltb-true, true≢false}
+use Rattle.std.proofs.lemmas.Bool.{lt-ltb, ltb-true}
 use Rattle.words.specs.Frames.{word}
 use Rattle.paging.specs.declared.leaf.Leaf.{Leaf}
 use Rattle.paging.specs.Entries.{frame_of, is_pointer, leaf_of}
@@ -37,13 +37,6 @@ module _ {X : Type 0} where
   step_stops : (c : Bool) (o : Option Fault) (r : Result X Fault) → c ≡ true → o ≡ Some NotLent → step c o r ≡ Err NotLent
   unfolding step
   step_stops c o r a b = rw (a, b) refl
-
-below_ok : (b : Bool) (l leaf : Leaf) → ◌≡◌ {A = Result Leaf Fault} (cond b (Ok l) (Err Broken)) (Ok leaf) → (b ≡ true) × (l ≡ leaf)
-below_ok b l leaf e = grind arith
-
--- a test that fails breaks the rule
-never_unlent : {X : Type 0} (b : Bool) (x : X) → ◌≡◌ {A = Result X Fault} (cond b (Ok x) (Err Broken)) (Err NotLent) → ⊥
-never_unlent b x e = grind arith
 
 leaf_ok : (o : Option Leaf) (leaf : Leaf) → leaf_below o ≡ Ok leaf → (o ≡ Some leaf) × (leaf.frame < 256)
 leaf_ok o leaf e = grind (arith, nat_tests)
@@ -127,10 +120,6 @@ module _ (ws : List ℕ) (r page : ℕ) where
   unread_unlent (PageUnread.no_table high low table h l n m p b missing) = to_unlent high low table h l n m p b missing
 
 -- what is said of an end
-permitted : (receives readable writable : Bool) (g f : ℕ) → ◌≡◌ {A = Result ℕ Fault} (cond (readable && not (receives && writable)) (Ok g) (Err Broken)) (Ok f) →
-    (readable ≡ true) × (receives ≡ true → writable ≡ false) × (g ≡ f)
-permitted receives readable writable g f e = grind arith
-
 allowed : (receives readable writable : Bool) → readable ≡ true → (receives ≡ true → writable ≡ false) → (readable && not (receives && writable)) ≡ true
 allowed receives readable writable r w = grind arith
 

@@ -2,9 +2,10 @@
 use Rattle.std.proofs.Common.{◌≡◌, ℕ, ◌<◌, Bool, true, false, cond, not, ◌&&◌, ltb, ◌⊎◌, List, Some, None, Decides, Option, sym, refl, ◌∙◌, subst, inl, inr, arith}
 use Rattle.std.proofs.lemmas.Bool.{cases_Bool, lt-ltb, ltb-true, true≢false}
 use Rattle.std.proofs.lemmas.Bool.Decides.{nat_tests}
+use Rattle.std.specs.Option.{option_or}
 use Rattle.words.specs.First.{first}
 use Rattle.words.specs.Frames.{lent, word}
-use Rattle.words.proofs.First.{all_not, below_none, first_is, first_stays, none_below, not_any, or_none, or_some}
+use Rattle.words.proofs.First.{all_not, below_none, first_is, first_stays, none_below, not_any}
 use Rattle.paging.specs.Entries.{frame_of, is_leaf, is_pointer, is_valid}
 use Rattle.paging.specs.Mapping.{InMemory, Pointer}
 use Rattle.paging.proofs.Tell.{pointer_tells}
@@ -59,12 +60,12 @@ module _ (ws : List ℕ) (f : ℕ) where
   pub missing_unlent : f < 256 → (Lent ws f → ⊥) → frame_fault ws f ≡ Some NotLent
   missing_unlent l missing = rw (lt-ltb f 256 l, not_lent missing) refl
 
--- a fault where a test passes
-pub faulty_none : (b : Bool) → ◌≡◌ {A = Option Fault} (cond b (Some Broken) None) None → b ≡ false
-faulty_none b e = grind arith
+-- what the fault of a table says: of its frame, and then a test that passes
+fault_parts : (o : Option Fault) (b : Bool) → option_or o (cond b (Some Broken) None) ≡ None → (o ≡ None) × (b ≡ false)
+fault_parts o b e = grind arith
 
-pub faulty_unlent : (b : Bool) → ◌≡◌ {A = Option Fault} (cond b (Some Broken) None) (Some NotLent) → ⊥
-faulty_unlent b e = grind arith
+unlent_part : (o : Option Fault) (b : Bool) → option_or o (cond b (Some Broken) None) ≡ Some NotLent → o ≡ Some NotLent
+unlent_part o b e = grind arith
 
 -- what a fault of an entry says: valid, a pointer, the fault of its table
 module _ where
@@ -83,16 +84,10 @@ module _ where
   unfolding entered
   entered_unlent v q o e = grind arith
 
-  unlent_entered : (v q : Bool) (o : Option Fault) → v ≡ true → q ≡ true → o ≡ Some NotLent → entered v q o ≡ Some NotLent
-  unfolding entered
-  unlent_entered v q o a b e = rw (a, b) e
-
 module _ (ws : List ℕ) where
   pub fault_none : (t : ℕ) → table_fault ws t ≡ None → InMemory ws t × TableFormed ws t
   unfolding table_fault
-  fault_none t e =
-      let z = or_none (frame_fault ws t) (cond (bad_table ws t) (Some Broken) None) e in
-      (none_there ws t z.0, table_good ws t (faulty_none (bad_table ws t) z.1))
+  fault_none t e = let z = fault_parts (frame_fault ws t) (bad_table ws t) e in (none_there ws t z.0, table_good ws t z.1)
 
   none_fault : (t : ℕ) → InMemory ws t → TableFormed ws t → table_fault ws t ≡ None
   unfolding table_fault
@@ -100,10 +95,7 @@ module _ (ws : List ℕ) where
 
   fault_unlent : (t : ℕ) → table_fault ws t ≡ Some NotLent → (t < 256) × (Lent ws t → ⊥)
   unfolding table_fault
-  fault_unlent t e = elim (or_some (frame_fault ws t) (cond (bad_table ws t) (Some Broken) None) NotLent e) [
-    | inl h ↦ unlent_missing ws t h
-    | inr h ↦ absurd (faulty_unlent (bad_table ws t) h.1)
-  ]
+  fault_unlent t e = unlent_missing ws t (unlent_part (frame_fault ws t) (bad_table ws t) e)
 
   unlent_fault : (t : ℕ) → t < 256 → (Lent ws t → ⊥) → table_fault ws t ≡ Some NotLent
   unfolding table_fault
@@ -163,7 +155,7 @@ module _ (ws : List ℕ) where
     at_table k t p l missing =
         let entry = word ws root k in
         let pointer : is_pointer entry ≡ true = (pointer_tells entry).1 (subst (Pointer entry) (sym p.frame) p) in
-        unlent_entered (is_valid entry) (is_pointer entry) (table_fault ws (frame_of entry)) p.valid pointer (subst (λ x. table_fault ws x ≡ Some NotLent) (sym p.frame) (unlent_fault t l missing))
+        rw (pointer, p.valid, p.frame) (unlent_fault t l missing)
 
     pub unread_unlent : TablesUnread ws root → root_fault ws root ≡ Some NotLent
     unfolding root_fault

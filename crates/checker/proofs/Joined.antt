@@ -1,6 +1,6 @@
 -- The rule on the pages of channels: its answer at a channel tells whether the pages fit, or cannot be looked up.
-use Rattle.std.proofs.Common.{◌≡◌, ℕ, true, false, eqb, ◌⊎◌, List, Some, None, Ok, Err, Result, sym, refl, ap, ◌∙◌, inl, inr, arith}
-use Rattle.std.proofs.lemmas.Bool.{eq-eqb, eqb-true, or_cases, or_left, or_right, true≢false}
+use Rattle.std.proofs.Common.{◌≡◌, ℕ, true, false, ◌⊎◌, List, Some, None, Ok, Err, Result, sym, refl, ◌∙◌, inl, inr, arith}
+use Rattle.std.proofs.lemmas.Bool.{true≢false}
 use Rattle.std.proofs.lemmas.Bool.Decides.{nat_tests}
 use Rattle.words.specs.First.{any}
 use Rattle.words.proofs.First.{all_not, any_here}
@@ -11,7 +11,6 @@ use Rattle.checker.specs.declared.fault.Fault.TheVariants.{NotLent}
 use Rattle.checker.specs.declared.pages.Ends.{Ends}
 use Rattle.checker.specs.Pages.{behind, both_ends, end_frame, ends_or_none, meets, ends_fault, taken_fault, touch, touches}
 use Rattle.checker.specs.Lawful.{Joins, PagesFit, PagesUnread, Touch}
-use Rattle.checker.proofs.Forms.{faulty_none, faulty_unlent}
 use Rattle.checker.proofs.Ended.{end_unread, end_usable, unread_end, usable_end}
 
 both_ok : (r s : Result ℕ Fault) (a : Ends) → both_ends r s ≡ Ok a → (r ≡ Ok a.sender) × (s ≡ Ok a.receiver)

@@ -1,5 +1,5 @@
 -- The example plan, worked out.
-use Rattle.std.proofs.Common.{ℕ, zero, suc, ◌<◌, [], ◌∷◌, get_or, refl, arith}
+use Rattle.std.proofs.Common.{ℕ, ◌<◌, [], ◌∷◌, get_or, refl, arith}
 use Rattle.words.specs.First.{first, most}
 use Rattle.plan.specs.Format.{no_partition, no_slot, plan_of, rows}
 use Rattle.plan.specs.Switch.{messages}
@@ -9,14 +9,10 @@ use Rattle.plan.specs.Written.{PartitionWritable, SlotWritable, a_partition, a_s
 use Rattle.plan.proofs.Decides.{kept_lawful}
 
 partitions_fit : (k : ℕ) → k < 2 → PartitionWritable (get_or (a_partition 0 0x10000 ∷ a_partition 1 0x10000 ∷ []) k no_partition)
-partitions_fit zero l = grind arith
-partitions_fit (suc zero) l = grind arith
-partitions_fit (suc (suc k)) l = absurd (omega arith)
+partitions_fit k l = grind arith
 
 slots_fit : (k : ℕ) → k < 2 → SlotWritable (get_or (a_slot 0 200 ∷ a_slot 1 128 ∷ []) k no_slot)
-slots_fit zero l = grind arith
-slots_fit (suc zero) l = grind arith
-slots_fit (suc (suc k)) l = absurd (omega arith)
+slots_fit k l = grind arith
 
 pub worked : Example
 unfolding first most messages plan_of rows begins
