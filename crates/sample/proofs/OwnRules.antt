@@ -1,7 +1,6 @@
 -- Plans whose rules on frames are kept: their own rules decide.
 use Rattle.std.proofs.Common.{◌≡◌, ℕ, List, [], ◌∷◌, ◌++◌, Some, None, Ok, Err, refl, arith}
 use Rattle.words.specs.First.{first, most}
-use Rattle.plan.specs.Switch.{messages}
 use Rattle.plan.specs.declared.model.Channel.{Channel}
 use Rattle.plan.specs.declared.refusal.Refusal.{Refusal}
 use Rattle.plan.specs.declared.refusal.Refusal.TheVariants.{BudgetRule, StartMisaligned, Surplus}
