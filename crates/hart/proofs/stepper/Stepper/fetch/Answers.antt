@@ -6,7 +6,7 @@ use Rattle.tables.specs.Tlb.{found, hit}
 use Rattle.tables.proofs.Truth.{known_hit}
 use Rattle.hart.specs.declared.step.Core.{Core}
 use Rattle.hart.specs.Core.{looked_up}
-use Rattle.hart.specs.Scaffold.{faulted}
+use Rattle.hart.specs.Scaffold.{faulted, opened}
 use Rattle.hart.proofs.stepper.Stepper.fetch.Goals as goal
 
 at_hand_found : (core : Core) (ws : List ℕ) (page frame : ℕ) → page ≡ core.context.pc / 4096 → found core.tables.tlb page Fetch None ≡ hit frame →
@@ -17,7 +17,7 @@ at_hand_found core ws page frame e h =
 
 pub returns-in-Some-clause-found : goal.returns-in-Some-clause-found
 returns-in-Some-clause-found c =
-    (at_hand_found c.args.self.now.core c.args.words.now c.in-Some.window.page c.in-Some.window.frame c.if-window-page.true (c.args.self.now.at_hand c.in-Some.window c.in-Some.is)).0
+    ap opened (at_hand_found c.args.self.now.core c.args.words.now c.in-Some.window.page c.in-Some.window.frame c.if-window-page.true (c.args.self.now.at_hand c.in-Some.window c.in-Some.is)).0
 
 pub returns-in-Some-clause-core : goal.returns-in-Some-clause-core
 returns-in-Some-clause-core c =
