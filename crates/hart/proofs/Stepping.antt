@@ -265,13 +265,16 @@ step_honest core ws = (program_kept core ws).honest
 
 -- a fetch is told of by the fetch alone
 module _ (core : Core) (ws : List ℕ) where
+  access_unfetched : (access : Access) (bytes address : ℕ) (at : Place → Outcome) → (data_access core ws access bytes address at).used.fetch_walked ≡ false
+  access_unfetched access bytes address at = access_cases (λ s. s.used.fetch_walked ≡ false) core ws access bytes address at (λ _ _ _. refl) (λ _ _. refl) (λ _. refl)
+
   executed_unfetched : (d : Effect) → (executed core ws d).used.fetch_walked ≡ false
   unfolding executed
   executed_unfetched (sets rd value) = refl
   executed_unfetched (jumps rd target) = refl
   executed_unfetched (branches taken target) = refl
-  executed_unfetched (loads width rd address) = access_cases (λ s. s.used.fetch_walked ≡ false) core ws _ _ address _ (λ _ _ _. refl) (λ _ _. refl) (λ _. refl)
-  executed_unfetched (stores width address value) = access_cases (λ s. s.used.fetch_walked ≡ false) core ws _ _ address _ (λ _ _ _. refl) (λ _ _. refl) (λ _. refl)
+  executed_unfetched (loads width rd address) = access_unfetched _ _ _ _
+  executed_unfetched (stores width address value) = access_unfetched _ _ _ _
 
   instruction_unfetched : (o : Option Instruction) → (instruction_step core ws o).used.fetch_walked ≡ false
   instruction_unfetched None = refl

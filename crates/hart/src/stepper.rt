@@ -7,7 +7,7 @@ ghost use Rattle.paging.specs.declared.access.Access.TheVariants.{Fetch};
 ghost use Rattle.tables.specs.Tlb.{found, hit};
 ghost use Rattle.hart.specs.Core.{fetch_step, looked_up, on_time, stepped};
 ghost use Rattle.hart.specs.Moments.{run_until};
-ghost use Rattle.hart.specs.Scaffold.{faulted, opened, moment};
+ghost use Rattle.hart.specs.Scaffold.{faulted, moment, opened};
 
 use crate::step::Core;
 use costs::used::walk_cycles;
@@ -30,7 +30,7 @@ struct Window {
     frame: u32,
 }
 
-// What a fetch finds: the frame of its page, and the cycles of the look-up.
+// What a fetch finds: the frame of its page, and the cycles of the look-up. A call that answers a `Lookup` has the loop clear its padding every time.
 #[derive(Clone, Copy)]
 struct Opened {
     frame: Option<u32>,
@@ -38,7 +38,6 @@ struct Opened {
 }
 
 impl Opened {
-    // As it is looked up.
     fn by(found: Lookup) -> Self
         ensures { result ≡ opened found }
     {
@@ -153,15 +152,16 @@ impl Stepper {
     {
         let page = self.core.context.pc / PAGE_BYTES;
         match self.window {
-            Some(window) if window.page == page => Opened {
+            Some(window) if window.page == page => Opened::by(Lookup {
                 frame: Some(window.frame),
-                cycles: 0,
-            },
+                walked: false,
+            }),
             _ => self.open(words),
         }
     }
 
     // Looks the page up and remembers it. A call of its own: in place it would take the loop's registers.
+    #[cold]
     #[inline(never)]
     fn open(&mut self, words: &[u32]) -> Opened
         ensures found { result ≡ opened (looked_up self.old.core words.now self.old.core.context.pc Fetch) }

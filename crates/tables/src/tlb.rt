@@ -77,6 +77,7 @@ impl Tlb {
     }
 
     // A page that no entry has: its frame after a walk.
+    #[cold]
     #[inline(never)]
     fn walk_for(&mut self, words: &[u32], root: u32, page: u32, access: Access) -> Option<u32>
         ensures frame { result ≡ option_map (λ l. l.frame) (granted access (walked words.now root page)) }

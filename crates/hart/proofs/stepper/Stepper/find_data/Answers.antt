@@ -1,5 +1,5 @@
 -- What is left to show of `find_data`: with no walk the TLB stays as it was, and the window's page in it.
-use Rattle.std.proofs.Common.{◌≡◌, ◌/◌, sym, ap, ◌∙◌}
+use Rattle.std.proofs.Common.{◌/◌, sym, ap, ◌∙◌}
 use Rattle.paging.specs.Walks.{walked}
 use Rattle.tables.proofs.Truth.{unwalked_look}
 use Rattle.hart.proofs.stepper.Stepper.find_data.Goals as goal
@@ -8,9 +8,9 @@ pub invariant_of-self-else-found : goal.invariant_of-self-else-found
 invariant_of-self-else-found c = record {
   at_hand = λ x e.
       let core = c.args.self.now.core in
-      let e1 = c.look_up-found.ensures in
+      let told = c.look_up-found.ensures in
       let unwalked = unwalked_look core.tables.tlb (c.args.address / 4096) c.args.access (walked c.args.words.now core.root (c.args.address / 4096))
-      (ap (λ l. l.walked) (sym e1.found) ∙ c.if-found.false) in
-      let still = ap (λ s. s.tables.tlb) e1.core ∙ unwalked in
+      (ap (λ l. l.walked) (sym told.found) ∙ c.if-found.false) in
+      let still = ap (λ s. s.tables.tlb) told.core ∙ unwalked in
       rw still (c.args.self.now.at_hand x e);
 }
