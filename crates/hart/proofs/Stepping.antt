@@ -24,7 +24,7 @@ use Rattle.tables.specs.Cache.{is_store, line_of}
 use Rattle.tables.specs.Honest.{Honest}
 use Rattle.tables.proofs.Lines.{whole_accessed, whole_empty}
 use Rattle.tables.proofs.Pages.{whole_used}
-use Rattle.tables.proofs.Truth.{honesty, unwalked_look}
+use Rattle.tables.proofs.Truth.{honesty}
 use Rattle.tables.proofs.Turns.{counters_stay}
 use Rattle.hart.specs.declared.cause.Cause.{Cause}
 use Rattle.hart.specs.declared.cause.Cause.TheVariants.{IllegalInstruction, FetchMisaligned, FetchFault}
@@ -36,7 +36,6 @@ use Rattle.hart.specs.Architecture.{Outcome}
 use Rattle.hart.specs.Causes.{fault_cause, misaligned_cause}
 use Rattle.hart.specs.Execution.{branch_context, goes_on, misses_target, next_pc, register_set, stopped}
 use Rattle.hart.specs.Core.{Step, after_lookup, data_access, executed, fetch_step, instruction_step, leads_to, program_step, stepped, with_fetch, word_step}
-use Rattle.hart.specs.Scaffold.{run_from}
 use Rattle.hart.specs.Steps.{SetOne, StayWhole, Steps, WholeTables, fetched}
 use Rattle.hart.proofs.Cases.{access_cases, by_state, fetch_cases}
 
@@ -264,40 +263,27 @@ pub step_honest : (core : Core) (ws : List ℕ) → Honest core.tables.tlb ws co
 unfolding stepped
 step_honest core ws = (program_kept core ws).honest
 
--- what an instruction does after its fetch: it fetches nothing, and where it walks nothing the TLB stays as it was
-record Quiet (core : Core) (s : Step) : Type 0 where
-  unfetched : s.used.fetch_walked ≡ false
-  still : s.used.data_walked ≡ false → s.core.tables.tlb ≡ core.tables.tlb
-
+-- a fetch is told of by the fetch alone
 module _ (core : Core) (ws : List ℕ) where
-  access_quiet : (access : Access) (bytes address : ℕ) (at : Place → Outcome) → Quiet core (data_access core ws access bytes address at)
-  access_quiet access bytes address at =
-      let still = unwalked_look core.tables.tlb (address / 4096) access (walked ws core.root (address / 4096)) in
-      access_cases (Quiet core) core ws access bytes address at
-      (λ _ _ _. record { unfetched = refl; still = still }) (λ _ _. record { unfetched = refl; still = still }) (λ _. record { unfetched = refl; still = λ _. refl })
+  access_unfetched : (access : Access) (bytes address : ℕ) (at : Place → Outcome) → (data_access core ws access bytes address at).used.fetch_walked ≡ false
+  access_unfetched access bytes address at = access_cases (λ s. s.used.fetch_walked ≡ false) core ws access bytes address at (λ _ _ _. refl) (λ _ _. refl) (λ _. refl)
 
-  executed_quiet : (d : Effect) → Quiet core (executed core ws d)
+  executed_unfetched : (d : Effect) → (executed core ws d).used.fetch_walked ≡ false
   unfolding executed
-  executed_quiet (sets rd value) = record { unfetched = refl; still = λ _. refl }
-  executed_quiet (jumps rd target) = record { unfetched = refl; still = λ _. refl }
-  executed_quiet (branches taken target) = record { unfetched = refl; still = λ _. refl }
-  executed_quiet (loads width rd address) = access_quiet _ _ _ _
-  executed_quiet (stores width address value) = access_quiet _ _ _ _
+  executed_unfetched (sets rd value) = refl
+  executed_unfetched (jumps rd target) = refl
+  executed_unfetched (branches taken target) = refl
+  executed_unfetched (loads width rd address) = access_unfetched _ _ _ _
+  executed_unfetched (stores width address value) = access_unfetched _ _ _ _
 
-  instruction_quiet : (o : Option Instruction) → Quiet core (instruction_step core ws o)
-  instruction_quiet None = record { unfetched = refl; still = λ _. refl }
-  instruction_quiet (Some i) = executed_quiet (effect_of i core.context.registers core.context.pc core.clock)
-
-  word_quiet : (w : ℕ) → Quiet core (word_step core ws w)
-  unfolding word_step
-  word_quiet w = instruction_quiet (decoded w)
-
-pub unwalked : (core : Core) (ws : List ℕ) (frame : ℕ) → (run_from core ws frame).used.data_walked ≡ false → (run_from core ws frame).core.tables.tlb ≡ core.tables.tlb
-unwalked core ws frame = (word_quiet core ws (word ws frame (core.context.pc % 4096 / 4))).still
+  instruction_unfetched : (o : Option Instruction) → (instruction_step core ws o).used.fetch_walked ≡ false
+  instruction_unfetched None = refl
+  instruction_unfetched (Some i) = executed_unfetched (effect_of i core.context.registers core.context.pc core.clock)
 
 -- the cycles of a fetch and of the rest
 pub took_fetch : (core : Core) (ws : List ℕ) (w : ℕ) (walked : Bool) → cycles (with_fetch walked (word_step core ws w)).used ≡ cycles (word_step core ws w).used + walk_cycles walked
-took_fetch core ws w walked = let none : walk_cycles (word_step core ws w).used.fetch_walked ≡ 0 = ap walk_cycles (word_quiet core ws w).unfetched in omega (arith, none)
+unfolding word_step
+took_fetch core ws w walked = let none : walk_cycles (word_step core ws w).used.fetch_walked ≡ 0 = ap walk_cycles (instruction_unfetched core ws (decoded w)) in omega (arith, none)
 
 -- a load changes no word
 pub load_words : (core : Core) (ws : List ℕ) (width : LoadWidth) (rd : Register) (address : ℕ) → (executed core ws (loads width rd address)).words ≡ ws
