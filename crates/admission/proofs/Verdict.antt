@@ -1,5 +1,5 @@
 -- The answer on a plan, its words and their image is the verdict that the rules ask for.
-use Rattle.std.proofs.Common.{◌≡◌, ℕ, List, Some, None, Ok, Err, IfOk, Option, Result, refl, inl, inr}
+use Rattle.std.proofs.Common.{◌≡◌, ℕ, List, Some, None, Ok, Err, IfOk, Option, Result, refl, inl, inr, arith}
 use Rattle.plan.specs.declared.refusal.Refusal.{Refusal}
 use Rattle.checker.specs.declared.Accepted.{Accepted}
 use Rattle.checker.specs.Checked.{checked}
@@ -28,9 +28,7 @@ pub verdict_as : (bytes words image : List ℕ) (r : Result Accepted Refusal) �
 verdict_as bytes words image r e = rw e (verdict bytes words image)
 
 judged_at : (r : Result Accepted Refusal) (o : Option Refusal) → IfOk (followed_by r o) (λ a. r ≡ Ok a)
-judged_at (Err e) o = tt
-judged_at (Ok a) None = refl
-judged_at (Ok a) (Some e) = tt
+judged_at r o = grind arith
 
 -- what is admitted, the checker accepts
 pub judged_as : (bytes words image : List ℕ) (r : Result Accepted Refusal) → r ≡ admitted bytes words image → IfOk r (λ a. checked bytes words ≡ Ok a)

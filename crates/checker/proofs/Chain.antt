@@ -20,8 +20,7 @@ unfolding index_in
 place_later ns n m e = rw (ne_eqb n m e) refl
 
 or_nothing : {X : Type 0} (o : Option X) → option_or o None ≡ o
-or_nothing None = refl
-or_nothing (Some x) = refl
+or_nothing o = grind arith
 
 module _ {F : Type 0} (rule place : F → ℕ) (says : F → Refusal) (Found : F → Type 0) where
   -- the answer of one rule, whose number is n

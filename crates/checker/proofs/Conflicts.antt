@@ -1,5 +1,5 @@
 -- The marks of partitions tell their conflicts.
-use Rattle.std.proofs.Common.{◌≡◌, ℕ, ◌<◌, ◌≤◌, Bool, true, false, not, ◌&&◌, ◌||◌, eqb, ◌⊎◌, List, Decides, sym, refl, ap, ◌∙◌, subst, inl, inr, arith}
+use Rattle.std.proofs.Common.{◌≡◌, ℕ, ◌<◌, ◌≤◌, Bool, true, not, eqb, ◌⊎◌, List, Decides, sym, refl, ap, ◌∙◌, subst, inl, inr, arith}
 use Rattle.std.proofs.lemmas.Bool.{and_from, and_parts, cases_Bool, cases_lt, eq-eqb, eqb-true, or_cases, or_left, or_right, true≢false, not-true}
 use Rattle.words.specs.First.{any}
 use Rattle.words.specs.Frames.{lent, word}
@@ -69,26 +69,6 @@ module _ (ws : List ℕ) (r : ℕ) where
         (and_from (pointed ws r t) (any (named_entry ws t f) 1024) (to_pointed t n.by)
         (any_here (named_entry ws t f) 1024 n.at n.within (and_from (is_valid (word ws t n.at)) (eqb (frame_of (word ws t n.at)) f) n.valid (eq-eqb (frame_of (word ws t n.at)) f n.names))))
 
-clash_names : (b d : Bool) → clash true b true d ≡ true
-unfolding clash
-clash_names b d = refl
-
-clash_tables : (b c : Bool) → clash true b c true ≡ true
-unfolding clash
-clash_tables b true = refl
-clash_tables b false = refl
-
-clash_own : (c d : Bool) → clash true true c d ≡ true
-unfolding clash
-clash_own true d = refl
-clash_own false true = refl
-clash_own false false = refl
-
-clash_later : (a d : Bool) → clash a true true d ≡ true
-unfolding clash
-clash_later true d = refl
-clash_later false d = refl
-
 data Ways (a b c d : Bool) : Type 0 where
   both : a ≡ true → c ≡ true → Ways a b c d
   table : a ≡ true → d ≡ true → Ways a b c d
@@ -97,13 +77,14 @@ data Ways (a b c d : Bool) : Type 0 where
 
 ways : (a b c d : Bool) → clash a b c d ≡ true → Ways a b c d
 unfolding clash
-ways a b c d e = elim (or_cases (a && (c || (d || b))) (b && c) e) [
-  | inl x ↦ (let y = and_parts a _ x in elim (or_cases c (d || b) y.1) [
-    | inl z ↦ both y.0 z
-    | inr z ↦ elim (or_cases d b z) [ inl w ↦ table y.0 w | inr w ↦ own y.0 w ]
-  ])
-  | inr x ↦ (let y = and_parts b c x in later y.0 y.1)
-]
+ways a b c d e = grind arith
+
+clashes : (a b c d : Bool) → Ways a b c d → clash a b c d ≡ true
+unfolding clash
+clashes a b c d (both x y) = grind arith
+clashes a b c d (table x y) = grind arith
+clashes a b c d (own x y) = grind arith
+clashes a b c d (later x y) = grind arith
 
 -- a conflict of partition k with one no later, over a frame
 Here : List ℕ → Plan → ℕ → ℕ → Type 0
@@ -112,53 +93,37 @@ Here ws p k f =
     × ((Names ws (root p k) f × (((k ≡ j → ⊥) × Names ws (root p j) f) ⊎ KernelFrame ws (root p j) f)) ⊎ (Names ws (root p j) f × KernelFrame ws (root p k) f))
 
 module _ (ws : List ℕ) (p : Plan) (f : ℕ) where
-  names_at : (q : ℕ) → named_at ws p f q ≡ true → Names ws (root p q) f
-  unfolding named_at
-  names_at q e = names_true ws (root p q) f e
-
-  kernels_at : (q : ℕ) → kernel_at ws p f q ≡ true → KernelFrame ws (root p q) f
-  unfolding kernel_at
-  kernels_at q e = kernel_true ws (root p q) f e
-
-  at_names : (q : ℕ) → Formed ws (root p q) → Names ws (root p q) f → named_at ws p f q ≡ true
-  unfolding named_at
-  at_names q ok n = true_names ws (root p q) ok f n
-
-  at_kernels : (q : ℕ) → KernelFrame ws (root p q) f → kernel_at ws p f q ≡ true
-  unfolding kernel_at
-  at_kernels q n = true_kernel ws (root p q) f n
-
   module _ (k : ℕ) where
     clash_here : clash_at ws p k f ≡ true → Here ws p k f
-    unfolding clash_at Here
+    unfolding clash_at Here named_at kernel_at
     clash_here e = elim (ways _ _ _ _ e) [
-      | both a c ↦ (let z = any_where (named_at ws p f) k c in (z.0, omega (arith, z.1), inl (names_at k a, inl ((λ s. absurd (omega (arith, z.1))), names_at z.0 z.2))))
-      | table a d ↦ (let z = any_where (kernel_at ws p f) k d in (z.0, omega (arith, z.1), inl (names_at k a, inr (kernels_at z.0 z.2))))
-      | own a b ↦ (k, omega arith, inl (names_at k a, inr (kernels_at k b)))
-      | later b c ↦ (let z = any_where (named_at ws p f) k c in (z.0, omega (arith, z.1), inr (names_at z.0 z.2, kernels_at k b)))
+      | both a c ↦ (let z = any_where (named_at ws p f) k c in (z.0, omega (arith, z.1), inl (names_true ws (root p k) f a, inl ((λ s. absurd (omega (arith, z.1))), names_true ws (root p z.0) f z.2))))
+      | table a d ↦ (let z = any_where (kernel_at ws p f) k d in (z.0, omega (arith, z.1), inl (names_true ws (root p k) f a, inr (kernel_true ws (root p z.0) f z.2))))
+      | own a b ↦ (k, omega arith, inl (names_true ws (root p k) f a, inr (kernel_true ws (root p k) f b)))
+      | later b c ↦ (let z = any_where (named_at ws p f) k c in (z.0, omega (arith, z.1), inr (names_true ws (root p z.0) f z.2, kernel_true ws (root p k) f b)))
     ]
 
     here_clash : ((q : ℕ) → q ≤ k → Formed ws (root p q)) → Here ws p k f → clash_at ws p k f ≡ true
-    unfolding clash_at Here
+    unfolding clash_at Here named_at kernel_at
     here_clash ok h =
-        let mine = ok k (omega arith) in
-        let theirs = ok h.0 h.1 in
-        elim (cases_lt h.0 k) [
+        let mine : Names ws (root p k) f → named_at ws p f k ≡ true = true_names ws (root p k) (ok k (omega arith)) f in
+        let theirs : Names ws (root p h.0) f → named_at ws p f h.0 ≡ true = true_names ws (root p h.0) (ok h.0 h.1) f in
+        clashes _ _ _ _ (elim (cases_lt h.0 k) [
           | inl l ↦ elim h.2 [
             | inl x ↦ elim x.1 [
-              | inl y ↦ rw (at_names k mine x.0, any_here (named_at ws p f) k h.0 l (at_names h.0 theirs y.1)) (clash_names _ _)
-              | inr y ↦ rw (at_names k mine x.0, any_here (kernel_at ws p f) k h.0 l (at_kernels h.0 y)) (clash_tables _ _)
+              | inl y ↦ both (mine x.0) (any_here (named_at ws p f) k h.0 l (theirs y.1))
+              | inr y ↦ table (mine x.0) (any_here (kernel_at ws p f) k h.0 l (true_kernel ws (root p h.0) f y))
             ]
-            | inr x ↦ rw (at_kernels k x.1, any_here (named_at ws p f) k h.0 l (at_names h.0 theirs x.0)) (clash_later _ _)
+            | inr x ↦ later (true_kernel ws (root p k) f x.1) (any_here (named_at ws p f) k h.0 l (theirs x.0))
           ]
           | inr l ↦ (let s : h.0 ≡ k = omega (arith, h.1) in elim h.2 [
             | inl x ↦ elim x.1 [
               | inl y ↦ absurd (y.0 (sym s))
-              | inr y ↦ rw (at_names k mine x.0, subst (λ (q : ℕ). kernel_at ws p f q ≡ true) s (at_kernels h.0 y)) (clash_own _ _)
+              | inr y ↦ own (mine x.0) (subst (λ (q : ℕ). kernel_at ws p f q ≡ true) s (true_kernel ws (root p h.0) f y))
             ]
-            | inr x ↦ rw (at_kernels k x.1, subst (λ (q : ℕ). named_at ws p f q ≡ true) s (at_names h.0 theirs x.0)) (clash_own _ _)
+            | inr x ↦ own (subst (λ (q : ℕ). named_at ws p f q ≡ true) s (theirs x.0)) (true_kernel ws (root p k) f x.1)
           ])
-        ]
+        ])
 
 module _ (ws : List ℕ) (p : Plan) where
   conflict_here : (k j : ℕ) → j ≤ k → Conflict ws p k j ⊎ Conflict ws p j k → (f : ℕ) × Here ws p k f
@@ -185,18 +150,18 @@ module _ (ws : List ℕ) (p : Plan) where
   )
 
   pub lent_decides : ((q : ℕ) → q < p.counts.partitions → Formed ws (root p q)) → Decides (lent_kept ws p) (AllLent ws p)
-  unfolding lent_kept missing_at
+  unfolding lent_kept missing_at named_at
   lent_decides ok = (
     (λ e k f l n. elim (cases_Bool (lent ws f)) [
       | inl y ↦ (lent_tells ws f).0 y
       | inr y ↦ absurd (
-          let some = any_here (named_at ws p f) p.counts.partitions k l (at_names ws p f k (ok k l) n) in
+          let some = any_here (named_at ws p f) p.counts.partitions k l (true_names ws (root p k) (ok k l) f n) in
           let here = any_here (missing_at ws p) 256 f (named_below ws (root p k) (ok k l) f n) (and_from (any (named_at ws p f) p.counts.partitions) (not (lent ws f)) some (ap not y)) in
           true≢false (sym here ∙ not-true (any (missing_at ws p) 256) e))
     ]),
     λ h. rw (all_not (missing_at ws p) 256 (λ f l e.
         let x = and_parts (any (named_at ws p f) p.counts.partitions) (not (lent ws f)) e in
         let z = any_where (named_at ws p f) p.counts.partitions x.0 in
-        let y : lent ws f ≡ true = (lent_tells ws f).1 (h z.0 f z.1 (names_at ws p f z.0 z.2)) in
+        let y : lent ws f ≡ true = (lent_tells ws f).1 (h z.0 f z.1 (names_true ws (root p z.0) f z.2)) in
         true≢false (sym x.1 ∙ ap not y))) refl,
   )

@@ -1,7 +1,8 @@
 -- The look-up of a channel's pages tells the frames that it joins.
 use Rattle.std.proofs.Common.{◌≡◌, ℕ, ◌+◌, ◌*◌, ◌/◌, ◌%◌, ◌<◌, Bool, true, false, cond, not, ◌&&◌, ltb, ◌⊎◌, List, Some, None, Ok, Err, Option, Result, sym, refl, ap, subst, inl, inr, arith}
 use Rattle.std.proofs.lemmas.Nat.{mod_below}
-use Rattle.std.proofs.lemmas.Bool.{lt-ltb, ltb-true, true≢false}
+use Rattle.std.proofs.lemmas.Bool.Decides.{nat_tests}
+use Rattle.std.proofs.lemmas.Bool.{lt-ltb, ltb-true}
 use Rattle.words.specs.Frames.{word}
 use Rattle.paging.specs.declared.leaf.Leaf.{Leaf}
 use Rattle.paging.specs.Entries.{frame_of, is_pointer, leaf_of}
@@ -23,16 +24,11 @@ module _ {X : Type 0} where
 
   step_ok : (c : Bool) (o : Option Fault) (r : Result X Fault) (x : X) → step c o r ≡ Ok x → (c ≡ true) × (o ≡ None) × (r ≡ Ok x)
   unfolding step
-  step_ok true None r x e = (refl, refl, e)
-  step_ok true (Some f) r x e = absurd (cc)
-  step_ok false o r x e = absurd (cc)
+  step_ok c o r x e = grind arith
 
   step_unlent : (c : Bool) (o : Option Fault) (r : Result X Fault) → step c o r ≡ Err NotLent → (c ≡ true) × ((o ≡ Some NotLent) ⊎ ((o ≡ None) × (r ≡ Err NotLent)))
   unfolding step
-  step_unlent true None r e = (refl, inr (refl, e))
-  step_unlent true (Some Broken) r e = absurd (cc)
-  step_unlent true (Some NotLent) r e = (refl, inl refl)
-  step_unlent false o r e = absurd (cc)
+  step_unlent c o r e = grind arith
 
   step_goes : (c : Bool) (o : Option Fault) (r s : Result X Fault) → c ≡ true → o ≡ None → r ≡ s → step c o r ≡ s
   unfolding step
@@ -42,22 +38,11 @@ module _ {X : Type 0} where
   unfolding step
   step_stops c o r a b = rw (a, b) refl
 
-below_ok : (b : Bool) (l leaf : Leaf) → ◌≡◌ {A = Result Leaf Fault} (cond b (Ok l) (Err Broken)) (Ok leaf) → (b ≡ true) × (l ≡ leaf)
-below_ok true l leaf e = (refl, cc)
-below_ok false l leaf e = absurd (cc)
-
--- a test that fails breaks the rule
-never_unlent : {X : Type 0} (b : Bool) (x : X) → ◌≡◌ {A = Result X Fault} (cond b (Ok x) (Err Broken)) (Err NotLent) → ⊥
-never_unlent true x e = cc
-never_unlent false x e = cc
-
 leaf_ok : (o : Option Leaf) (leaf : Leaf) → leaf_below o ≡ Ok leaf → (o ≡ Some leaf) × (leaf.frame < 256)
-leaf_ok None leaf e = absurd (cc)
-leaf_ok (Some l) leaf e = let z = below_ok (ltb l.frame 256) l leaf e in (ap Some z.1, subst (λ x. x.frame < 256) z.1 (ltb-true l.frame 256 z.0))
+leaf_ok o leaf e = grind (arith, nat_tests)
 
 leaf_lent : (o : Option Leaf) → leaf_below o ≡ Err NotLent → ⊥
-leaf_lent None e = cc
-leaf_lent (Some l) e = never_unlent (ltb l.frame 256) l e
+leaf_lent o e = grind arith
 
 module _ (ws : List ℕ) (r page : ℕ) where
   looked_leads : (leaf : Leaf) → looked_up ws r page ≡ Ok leaf → Leads ws r page leaf
@@ -135,25 +120,15 @@ module _ (ws : List ℕ) (r page : ℕ) where
   unread_unlent (PageUnread.no_table high low table h l n m p b missing) = to_unlent high low table h l n m p b missing
 
 -- what is said of an end
-permitted : (receives readable writable : Bool) (g f : ℕ) → ◌≡◌ {A = Result ℕ Fault} (cond (readable && not (receives && writable)) (Ok g) (Err Broken)) (Ok f) →
-    (readable ≡ true) × (receives ≡ true → writable ≡ false) × (g ≡ f)
-permitted receives false writable g f e = absurd (cc)
-permitted true true true g f e = absurd (cc)
-permitted true true false g f e = (refl, (λ _. refl), cc)
-permitted false true writable g f e = (refl, (λ h. absurd (true≢false (sym h))), cc)
-
 allowed : (receives readable writable : Bool) → readable ≡ true → (receives ≡ true → writable ≡ false) → (readable && not (receives && writable)) ≡ true
-allowed true readable writable r w = rw (r, w refl) refl
-allowed false readable writable r w = rw r refl
+allowed receives readable writable r w = grind arith
 
 usable_ok : (receives : Bool) (r : Result Leaf Fault) (f : ℕ) → usable receives r ≡ Ok f →
     (leaf : Leaf) × (r ≡ Ok leaf) × (leaf.readable ≡ true) × (receives ≡ true → leaf.writable ≡ false) × (leaf.frame ≡ f)
-usable_ok receives (Err x) f e = absurd (cc)
-usable_ok receives (Ok leaf) f e = let z = permitted receives leaf.readable leaf.writable leaf.frame f e in (leaf, refl, z.0, z.1, z.2)
+usable_ok receives r f e = grind arith
 
 usable_unlent : (receives : Bool) (r : Result Leaf Fault) → usable receives r ≡ Err NotLent → r ≡ Err NotLent
-usable_unlent receives (Err x) e = cc
-usable_unlent receives (Ok leaf) e = absurd (never_unlent (leaf.readable && not (receives && leaf.writable)) leaf.frame e)
+usable_unlent receives r e = grind arith
 
 module _ (ws : List ℕ) (p : Plan) (end : Endpoint) (receives : Bool) where
   pub end_usable : (f : ℕ) → end_frame ws p end receives ≡ Ok f → Usable ws p end receives f

@@ -2,9 +2,10 @@
 use Rattle.std.proofs.Common.{◌≡◌, ℕ, ◌<◌, Bool, true, false, cond, not, ◌&&◌, ltb, ◌⊎◌, List, Some, None, Decides, Option, sym, refl, ◌∙◌, subst, inl, inr, arith}
 use Rattle.std.proofs.lemmas.Bool.{cases_Bool, lt-ltb, ltb-true, true≢false}
 use Rattle.std.proofs.lemmas.Bool.Decides.{nat_tests}
+use Rattle.std.specs.Option.{option_or}
 use Rattle.words.specs.First.{first}
 use Rattle.words.specs.Frames.{lent, word}
-use Rattle.words.proofs.First.{all_not, below_none, first_is, first_stays, none_below, not_any, or_none, or_some}
+use Rattle.words.proofs.First.{all_not, below_none, first_is, first_stays, none_below, not_any}
 use Rattle.paging.specs.Entries.{frame_of, is_leaf, is_pointer, is_valid}
 use Rattle.paging.specs.Mapping.{InMemory, Pointer}
 use Rattle.paging.proofs.Tell.{pointer_tells}
@@ -19,16 +20,10 @@ lent_tells ws f = ((λ e. grind (arith, nat_tests)), λ h. grind (arith, nat_tes
 
 -- valid entries that are not both
 bad_not : (v l b : Bool) → (v && not (l && b)) ≡ false → v ≡ true → (l ≡ true) × (b ≡ true)
-bad_not true true true h v = (refl, refl)
-bad_not true true false h v = absurd (true≢false h)
-bad_not true false b h v = absurd (true≢false h)
-bad_not false l b h v = absurd (true≢false (sym v))
+bad_not v l b h e = grind arith
 
 not_bad : (v l b : Bool) → (v ≡ true → (l ≡ true) × (b ≡ true)) → (v && not (l && b)) ≡ true → ⊥
-not_bad true true true h e = true≢false (sym e)
-not_bad true true false h e = true≢false (sym (h refl).1)
-not_bad true false b h e = true≢false (sym (h refl).0)
-not_bad false l b h e = true≢false (sym e)
+not_bad v l b h e = grind arith
 
 table_good : (ws : List ℕ) (t : ℕ) → bad_table ws t ≡ false → TableFormed ws t
 unfolding bad_table
@@ -44,14 +39,10 @@ good_table ws t h = all_not (bad_leaf_at ws t) 1024 (λ k l e.
 
 -- what a frame's fault says of its tests: below 256, lent
 frame_none : (a b : Bool) → cond a (cond b None (Some NotLent)) (Some Broken) ≡ None → (a ≡ true) × (b ≡ true)
-frame_none true true e = (refl, refl)
-frame_none true false e = absurd (cc)
-frame_none false b e = absurd (cc)
+frame_none a b e = grind arith
 
 frame_unlent : (a b : Bool) → cond a (cond b None (Some NotLent)) (Some Broken) ≡ Some NotLent → (a ≡ true) × (b ≡ false)
-frame_unlent true false e = (refl, refl)
-frame_unlent true true e = absurd (cc)
-frame_unlent false b e = absurd (cc)
+frame_unlent a b e = grind arith
 
 module _ (ws : List ℕ) (f : ℕ) where
   pub none_there : frame_fault ws f ≡ None → InMemory ws f
@@ -69,14 +60,12 @@ module _ (ws : List ℕ) (f : ℕ) where
   pub missing_unlent : f < 256 → (Lent ws f → ⊥) → frame_fault ws f ≡ Some NotLent
   missing_unlent l missing = rw (lt-ltb f 256 l, not_lent missing) refl
 
--- a fault where a test passes
-pub faulty_none : (b : Bool) → ◌≡◌ {A = Option Fault} (cond b (Some Broken) None) None → b ≡ false
-faulty_none true e = absurd (cc)
-faulty_none false e = refl
+-- what the fault of a table says: of its frame, and then a test that passes
+fault_parts : (o : Option Fault) (b : Bool) → option_or o (cond b (Some Broken) None) ≡ None → (o ≡ None) × (b ≡ false)
+fault_parts o b e = grind arith
 
-pub faulty_unlent : (b : Bool) → ◌≡◌ {A = Option Fault} (cond b (Some Broken) None) (Some NotLent) → ⊥
-faulty_unlent true e = cc
-faulty_unlent false e = cc
+unlent_part : (o : Option Fault) (b : Bool) → option_or o (cond b (Some Broken) None) ≡ Some NotLent → o ≡ Some NotLent
+unlent_part o b e = grind arith
 
 -- what a fault of an entry says: valid, a pointer, the fault of its table
 module _ where
@@ -85,31 +74,20 @@ module _ where
 
   entered_none : (v q : Bool) (o : Option Fault) → entered v q o ≡ None → v ≡ true → (q ≡ true) × (o ≡ None)
   unfolding entered
-  entered_none true true o e v = (refl, e)
-  entered_none true false o e v = absurd (cc)
-  entered_none false q o e v = absurd (true≢false (sym v))
+  entered_none v q o e h = grind arith
 
   none_entered : (v q : Bool) (o : Option Fault) → (v ≡ true → (q ≡ true) × (o ≡ None)) → entered v q o ≡ None
   unfolding entered
-  none_entered true q o h = rw (h refl).0 (h refl).1
-  none_entered false q o h = refl
+  none_entered v q o h = grind arith
 
   entered_unlent : (v q : Bool) (o : Option Fault) → entered v q o ≡ Some NotLent → (v ≡ true) × (q ≡ true) × (o ≡ Some NotLent)
   unfolding entered
-  entered_unlent true true o e = (refl, refl, e)
-  entered_unlent true false o e = absurd (cc)
-  entered_unlent false q o e = absurd (cc)
-
-  unlent_entered : (v q : Bool) (o : Option Fault) → v ≡ true → q ≡ true → o ≡ Some NotLent → entered v q o ≡ Some NotLent
-  unfolding entered
-  unlent_entered v q o a b e = rw (a, b) e
+  entered_unlent v q o e = grind arith
 
 module _ (ws : List ℕ) where
   pub fault_none : (t : ℕ) → table_fault ws t ≡ None → InMemory ws t × TableFormed ws t
   unfolding table_fault
-  fault_none t e =
-      let z = or_none (frame_fault ws t) (cond (bad_table ws t) (Some Broken) None) e in
-      (none_there ws t z.0, table_good ws t (faulty_none (bad_table ws t) z.1))
+  fault_none t e = let z = fault_parts (frame_fault ws t) (bad_table ws t) e in (none_there ws t z.0, table_good ws t z.1)
 
   none_fault : (t : ℕ) → InMemory ws t → TableFormed ws t → table_fault ws t ≡ None
   unfolding table_fault
@@ -117,10 +95,7 @@ module _ (ws : List ℕ) where
 
   fault_unlent : (t : ℕ) → table_fault ws t ≡ Some NotLent → (t < 256) × (Lent ws t → ⊥)
   unfolding table_fault
-  fault_unlent t e = elim (or_some (frame_fault ws t) (cond (bad_table ws t) (Some Broken) None) NotLent e) [
-    | inl h ↦ unlent_missing ws t h
-    | inr h ↦ absurd (faulty_unlent (bad_table ws t) h.1)
-  ]
+  fault_unlent t e = unlent_missing ws t (unlent_part (frame_fault ws t) (bad_table ws t) e)
 
   unlent_fault : (t : ℕ) → t < 256 → (Lent ws t → ⊥) → table_fault ws t ≡ Some NotLent
   unfolding table_fault
@@ -142,8 +117,7 @@ module _ (ws : List ℕ) where
 
   module _ (root : ℕ) where
     formed_split : (b : Bool) (o : Option Fault) → cond b o (Some NotLent) ≡ None → (b ≡ true) × (o ≡ None)
-    formed_split true o e = (refl, e)
-    formed_split false o e = absurd (cc)
+    formed_split b o e = grind arith
 
     pub none_formed : root_fault ws root ≡ None → Formed ws root
     unfolding root_fault
@@ -159,8 +133,7 @@ module _ (ws : List ℕ) where
     formed_none h = rw ((lent_tells ws root).1 h.there) (below_none (entry_fault_at ws root) 1024 (λ k l. good_entry (word ws root k) (h.entries k l)))
 
     unread_split : (b : Bool) (o : Option Fault) → cond b o (Some NotLent) ≡ Some NotLent → (b ≡ false) ⊎ (o ≡ Some NotLent)
-    unread_split true o e = inr e
-    unread_split false o e = inl refl
+    unread_split b o e = grind arith
 
     at_entry : (k : ℕ) → k < 1024 → entry_fault_at ws root k ≡ Some NotLent → ((j : ℕ) → j < k → entry_fault_at ws root j ≡ None) → TablesUnread ws root
     unfolding entry_fault entered
@@ -182,7 +155,7 @@ module _ (ws : List ℕ) where
     at_table k t p l missing =
         let entry = word ws root k in
         let pointer : is_pointer entry ≡ true = (pointer_tells entry).1 (subst (Pointer entry) (sym p.frame) p) in
-        unlent_entered (is_valid entry) (is_pointer entry) (table_fault ws (frame_of entry)) p.valid pointer (subst (λ x. table_fault ws x ≡ Some NotLent) (sym p.frame) (unlent_fault t l missing))
+        rw (pointer, p.valid, p.frame) (unlent_fault t l missing)
 
     pub unread_unlent : TablesUnread ws root → root_fault ws root ≡ Some NotLent
     unfolding root_fault

@@ -1,6 +1,7 @@
 -- The rule on the pages of channels: its answer at a channel tells whether the pages fit, or cannot be looked up.
-use Rattle.std.proofs.Common.{◌≡◌, ℕ, true, false, eqb, ◌⊎◌, List, Some, None, Ok, Err, Result, sym, refl, ap, ◌∙◌, inl, inr}
-use Rattle.std.proofs.lemmas.Bool.{eq-eqb, eqb-true, or_cases, or_left, or_right, true≢false}
+use Rattle.std.proofs.Common.{◌≡◌, ℕ, true, false, ◌⊎◌, List, Some, None, Ok, Err, Result, sym, refl, ◌∙◌, inl, inr, arith}
+use Rattle.std.proofs.lemmas.Bool.{true≢false}
+use Rattle.std.proofs.lemmas.Bool.Decides.{nat_tests}
 use Rattle.words.specs.First.{any}
 use Rattle.words.proofs.First.{all_not, any_here}
 use Rattle.plan.specs.declared.model.Plan.{Plan}
@@ -10,42 +11,22 @@ use Rattle.checker.specs.declared.fault.Fault.TheVariants.{NotLent}
 use Rattle.checker.specs.declared.pages.Ends.{Ends}
 use Rattle.checker.specs.Pages.{behind, both_ends, end_frame, ends_or_none, meets, ends_fault, taken_fault, touch, touches}
 use Rattle.checker.specs.Lawful.{Joins, PagesFit, PagesUnread, Touch}
-use Rattle.checker.proofs.Forms.{faulty_none, faulty_unlent}
 use Rattle.checker.proofs.Ended.{end_unread, end_usable, unread_end, usable_end}
 
 both_ok : (r s : Result ℕ Fault) (a : Ends) → both_ends r s ≡ Ok a → (r ≡ Ok a.sender) × (s ≡ Ok a.receiver)
-both_ok (Ok x) (Ok y) a e = let h : ◌≡◌ {A = Ends} (record { sender = x; receiver = y }) a = cc in (ap (λ z. Ok z.sender) h, ap (λ z. Ok z.receiver) h)
-both_ok (Ok x) (Err y) a e = absurd (cc)
-both_ok (Err x) s a e = absurd (cc)
+both_ok r s a e = grind arith
 
 both_unlent : (r s : Result ℕ Fault) → both_ends r s ≡ Err NotLent → (r ≡ Err NotLent) ⊎ (((f : ℕ) × (r ≡ Ok f)) × (s ≡ Err NotLent))
-both_unlent (Ok x) (Ok y) e = absurd (cc)
-both_unlent (Ok x) (Err y) e = inr ((x, refl), cc)
-both_unlent (Err x) s e = inl cc
+both_unlent r s e = grind arith
 
 touch_tells : (a b : Ends) → touch a b ≡ true → Touch a b
-touch_tells a b e = elim (or_cases (eqb a.sender b.sender) _ e) [
-  | inl h ↦ inl (eqb-true a.sender b.sender h)
-  | inr x ↦ elim (or_cases (eqb a.sender b.receiver) _ x) [
-    | inl h ↦ inr (inl (eqb-true a.sender b.receiver h))
-    | inr y ↦ elim (or_cases (eqb a.receiver b.sender) (eqb a.receiver b.receiver) y) [
-      | inl h ↦ inr (inr (inl (eqb-true a.receiver b.sender h)))
-      | inr h ↦ inr (inr (inr (eqb-true a.receiver b.receiver h)))
-    ]
-  ]
-]
+touch_tells a b e = grind (arith, nat_tests)
 
 told_touch : (a b : Ends) → Touch a b → touch a b ≡ true
-told_touch a b (inl h) = or_left (eqb a.sender b.sender) _ (eq-eqb a.sender b.sender h)
-told_touch a b (inr (inl h)) = or_right (eqb a.sender b.sender) _ (or_left (eqb a.sender b.receiver) _ (eq-eqb a.sender b.receiver h))
-told_touch a b (inr (inr (inl h))) =
-    or_right (eqb a.sender b.sender) _ (or_right (eqb a.sender b.receiver) _ (or_left (eqb a.receiver b.sender) _ (eq-eqb a.receiver b.sender h)))
-told_touch a b (inr (inr (inr h))) =
-    or_right (eqb a.sender b.sender) _ (or_right (eqb a.sender b.receiver) _ (or_right (eqb a.receiver b.sender) _ (eq-eqb a.receiver b.receiver h)))
+told_touch a b h = grind (arith, nat_tests)
 
 touches_some : (a : Ends) (r : Result Ends Fault) → touches a r ≡ true → (b : Ends) × (r ≡ Ok b) × (touch a b ≡ true)
-touches_some a (Ok b) e = (b, refl, e)
-touches_some a (Err x) e = absurd (true≢false (sym e))
+touches_some a r e = grind arith
 
 module _ (ws : List ℕ) (p : Plan) (k : ℕ) where
   behind_joins : (a : Ends) → behind ws p k ≡ Ok a → Joins ws p k a
@@ -72,12 +53,10 @@ module _ (ws : List ℕ) (p : Plan) (k : ℕ) where
 
 module _ (ws : List ℕ) (p : Plan) (k : ℕ) where
   taken_none : (r : Result Ends Fault) → taken_fault ws p k r ≡ None → (a : Ends) × (r ≡ Ok a) × (any (meets ws p a) k ≡ false)
-  taken_none (Err x) e = absurd (cc)
-  taken_none (Ok a) e = (a, refl, faulty_none (any (meets ws p a) k) e)
+  taken_none r e = grind arith
 
   taken_unlent : (r : Result Ends Fault) → taken_fault ws p k r ≡ Some NotLent → r ≡ Err NotLent
-  taken_unlent (Err x) e = cc
-  taken_unlent (Ok a) e = absurd (faulty_unlent (any (meets ws p a) k) e)
+  taken_unlent r e = grind arith
 
   pub none_fit : ends_fault ws p k ≡ None → PagesFit ws p k
   unfolding ends_fault meets

@@ -1,8 +1,10 @@
 -- The checker's answer is the verdict that the rules ask for.
-use Rattle.std.proofs.Common.{◌≡◌, ℕ, ◌<◌, Bool, true, false, List, ◌∷◌, length, get_or, Some, None, Ok, Decides, Option, sym, refl, ◌∙◌, subst, inl, inr, arith}
-use Rattle.std.proofs.lemmas.Bool.{both_ways, cases_Bool, cases_eq, cases_lt, cond-true, lt-ltb}
+use Rattle.std.proofs.Common.{◌≡◌, ℕ, ◌<◌, Bool, true, false, List, ◌∷◌, get_or, Some, None, Ok, Option, sym, refl, ◌∙◌, subst, inl, inr, arith}
+use Rattle.std.proofs.lemmas.Bool.{cases_eq, cases_lt, cond-true, lt-ltb}
 use Rattle.std.proofs.lemmas.Result.{MatchResult-at_ok}
 use Rattle.std.specs.Option.{option_or}
+use Rattle.words.specs.First.{first}
+use Rattle.words.proofs.First.{none_below}
 use Rattle.paging.specs.declared.leaf.Leaf.{Leaf}
 use Rattle.paging.specs.Mapping.{Maps}
 use Rattle.paging.specs.Tables.{Names}
@@ -11,21 +13,18 @@ use Rattle.plan.specs.declared.model.Endpoint.{Endpoint}
 use Rattle.plan.specs.declared.refusal.Count.TheVariants.{Channels}
 use Rattle.plan.specs.declared.refusal.Refusal.{Refusal}
 use Rattle.plan.specs.declared.refusal.Refusal.TheVariants.{Truncated, CountRange, SlotRule, ChannelRule, ChannelPage, RootRule, TableMalformed, FrameShared, StartMisaligned, BudgetRule, FramesMissing, Surplus}
-use Rattle.plan.specs.Format.{plan_of, plan_size}
-use Rattle.plan.specs.Lawful.{PlanLawful}
+use Rattle.plan.specs.Format.{plan_of}
 use Rattle.plan.specs.Refused.{Ranked, turns}
-use Rattle.plan.specs.Rules.{budget_kept, channel, channel_kept, count_kept, slot_kept, start_kept}
-use Rattle.plan.proofs.Decides.{all_ranked, budget_decides, channel_decides, count_decides, slot_decides, start_decides}
+use Rattle.plan.specs.Rules.{budget_fault, channel, channel_fault, count_fault, slot_fault, start_fault, surplus, truncated}
+use Rattle.plan.proofs.Decides.{all_ranked, kept_lawful, passed}
 use Rattle.plan.proofs.Rows.{rows_at}
 use Rattle.checker.specs.declared.Accepted.{Accepted}
-use Rattle.checker.specs.declared.fault.Fault.{Fault}
-use Rattle.checker.specs.declared.fault.Fault.TheVariants.{Broken as RuleBroken, NotLent}
 use Rattle.checker.specs.Checked.{accepted, checked, first_refusal}
-use Rattle.checker.specs.Pages.{ends_or_none, no_ends, ends_fault}
-use Rattle.checker.specs.Roots.{root_kept}
-use Rattle.checker.specs.Sharing.{apart_kept, lent_kept}
-use Rattle.checker.specs.Tables.{root_fault}
-use Rattle.checker.specs.Lawful.{Apart, Formed, Leads, PagesFit, Usable, root}
+use Rattle.checker.specs.Pages.{ends_fault, ends_or_none, ends_refusal, no_ends}
+use Rattle.checker.specs.Roots.{root_refusal}
+use Rattle.checker.specs.Sharing.{lent_refusal, share_refusal}
+use Rattle.checker.specs.Tables.{table_refusal}
+use Rattle.checker.specs.Lawful.{Apart, Leads, Usable, root}
 use Rattle.checker.specs.Found.{AcceptedSeparate, AcceptedUnshared, Behind, ChannelJoins, Finding, FirstFound, Found, Judges, Lawful, Separate, Sound, found_at, refusal_of, rule_of}
 use Rattle.checker.specs.Found.Finding.{broken, pages_unread, tables_unread}
 use Rattle.checker.proofs.Chain.{Asked, chain, last}
@@ -33,10 +32,12 @@ use Rattle.checker.proofs.Forms as forms
 use Rattle.checker.proofs.Joined as joined
 use Rattle.checker.proofs.Conflicts.{apart_decides, lent_decides}
 use Rattle.checker.proofs.Leading.{leads_maps, named_leaf}
-use Rattle.checker.proofs.Staged.{Staged, all_formed, budget_stage, channels_stage, counts_stage, lent_stage, pages_stage, root_decides, roots_stage, sharing_stage, slots_stage, starts_stage, surplus_stage, tables_stage, truncated_stage}
+use Rattle.checker.proofs.Staged.{Staged, all_formed, budget_stage, channels_stage, counts_stage, lent_stage, pages_stage, refused_none, root_decides, roots_stage, sharing_stage, slots_stage, starts_stage, surplus_stage, tables_stage, truncated_stage}
 
-decided : {P : Type 0} (t : Bool) → Decides t P → ((P → ⊥) → ⊥) → P
-decided t d h = elim (cases_Bool t) [ inl e ↦ d.0 e | inr e ↦ absurd (h (λ p. both_ways t e (d.1 p))) ]
+all_none : (a b c d e f g h i j k l : Option Refusal) →
+    option_or a (option_or b (option_or c (option_or d (option_or e (option_or f (option_or g (option_or h (option_or i (option_or j (option_or k l)))))))))) ≡ None →
+    (a ≡ None) × (b ≡ None) × (c ≡ None) × (d ≡ None) × (e ≡ None) × (f ≡ None) × (g ≡ None) × (h ≡ None) × (i ≡ None) × (j ≡ None) × (k ≡ None) × (l ≡ None)
+all_none a b c d e f g h i j k l none = grind arith
 
 -- the rule of a finding has a turn
 pub ranked : (d : Finding) → Ranked (rule_of d)
@@ -87,61 +88,28 @@ module _ (bytes words : List ℕ) where
       let r = root (plan_of bytes) k in
       let e = forms.unread_unlent words r b.1 in let f = forms.formed_none words r (h.tables k b.0) in cc
 
-  module _ (none : (d : Finding) → Found bytes words d → ⊥) where
-    fits_at : (k : ℕ) → k < (plan_of bytes).counts.channels → (o : Option Fault) → ends_fault words (plan_of bytes) k ≡ o → PagesFit words (plan_of bytes) k
-    unfolding Found
-    fits_at k l None e = joined.none_fit words (plan_of bytes) k e
-    fits_at k l (Some NotLent) e = absurd (none (pages_unread k) (l, joined.unlent_unread words (plan_of bytes) k e))
-    fits_at k l (Some RuleBroken) e = absurd (none (broken (ChannelPage k)) (
-      l,
-      (λ u. absurd (let f = joined.unread_unlent words (plan_of bytes) k u in cc)),
-      λ t. absurd (let f = joined.fit_none words (plan_of bytes) k t in cc),
-    ))
-
-    formed_at : (k : ℕ) → k < (plan_of bytes).counts.partitions → (o : Option Fault) → root_fault words (root (plan_of bytes) k) ≡ o → Formed words (root (plan_of bytes) k)
-    unfolding Found
-    formed_at k l None e = forms.none_formed words (root (plan_of bytes) k) e
-    formed_at k l (Some NotLent) e = absurd (none (tables_unread k) (l, forms.unlent_unread words (root (plan_of bytes) k) e))
-    formed_at k l (Some RuleBroken) e = absurd (none (broken (TableMalformed k)) (
-      l,
-      (λ u. absurd (let f = forms.unread_unlent words (root (plan_of bytes) k) u in cc)),
-      λ t. absurd (let f = forms.formed_none words (root (plan_of bytes) k) t in cc),
-    ))
-
-    all_formed_here : (k : ℕ) → k < (plan_of bytes).counts.partitions → Formed words (root (plan_of bytes) k)
-    all_formed_here k l = formed_at k l (root_fault words (root (plan_of bytes) k)) refl
-
-    apart_at : (k : ℕ) → k < (plan_of bytes).counts.partitions → Apart words (plan_of bytes) k
-    unfolding Found
-    apart_at k l = decided (apart_kept words (plan_of bytes) k) (apart_decides words (plan_of bytes) k (λ q h. all_formed_here q (omega arith))) (λ f. none (broken (FrameShared k)) (l, f))
-
-    plan_lawful : PlanLawful bytes
-    unfolding Found
-    plan_lawful =
-        let p = plan_of bytes in
-        record {
-          whole = elim (cases_lt (length bytes) (plan_size p.counts)) [ inl l ↦ absurd (none (broken (Truncated (length bytes))) (l, refl)) | inr l ↦ l ];
-          counts = λ c. decided (count_kept p.counts c) (count_decides p c) (none (broken (CountRange c)));
-          slots = λ k l. decided (slot_kept p k) (slot_decides p k) (λ f. none (broken (SlotRule k)) (l, f));
-          channels = λ k l. decided (channel_kept p k) (channel_decides p k) (λ f. none (broken (ChannelRule k)) (l, f));
-          starts = λ k l. decided (start_kept p k) (start_decides p k) (λ f. none (broken (StartMisaligned k)) (l, f));
-          budget = decided (budget_kept p) (budget_decides p) (none (broken BudgetRule));
-          no_surplus = elim (cases_lt (plan_size p.counts) (length bytes)) [ inl l ↦ absurd (none (broken (Surplus (plan_size p.counts))) (l, refl)) | inr l ↦ l ];
-        }
-
-    none_lawful : Lawful bytes words
-    unfolding Found
-    none_lawful = record {
-      plan = plan_lawful;
-      pages = λ k l. fits_at k l (ends_fault words (plan_of bytes) k) refl;
-      roots = λ k l. decided (root_kept words (plan_of bytes) k) (root_decides words (plan_of bytes) k) (λ f. none (broken (RootRule k)) (l, f));
-      tables = all_formed_here;
-      apart = λ a b la lb c. elim (cases_lt a b) [
-        | inl l ↦ apart_at b lb a (omega arith) (inr c)
-        | inr l ↦ apart_at a la b l (inl c)
-      ];
-      all_lent = decided (lent_kept words (plan_of bytes)) (lent_decides words (plan_of bytes) all_formed_here) (none (broken FramesMissing));
-    }
+  -- where no rule refuses, all are kept
+  none_lawful : first_refusal bytes words (plan_of bytes) ≡ None → Lawful bytes words
+  unfolding first_refusal
+  none_lawful none =
+      let p = plan_of bytes in
+      let n = all_none (truncated bytes p) (first (count_fault p.counts) 3) (first (slot_fault p) p.counts.slots) (first (channel_fault p) p.counts.channels)
+      (first (ends_refusal words p) p.counts.channels) (first (root_refusal words p) p.counts.partitions) (first (table_refusal words p) p.counts.partitions)
+      (first (share_refusal words p) p.counts.partitions) (first (start_fault p) p.counts.partitions) (budget_fault p) (lent_refusal words p) (surplus bytes p) none in
+      let tables = all_formed bytes words n.6 in
+      let apart : (k : ℕ) → k < p.counts.partitions → Apart words p k = λ k l.
+      (apart_decides words p k (λ q h. tables q (omega arith))).0 (passed _ _ (none_below (share_refusal words p) p.counts.partitions n.7 k l)) in
+      record {
+        plan = kept_lawful bytes n.0 n.1 n.2 n.3 n.8 n.9 n.11;
+        pages = λ k l. joined.none_fit words p k (refused_none (ChannelPage k) (ends_fault words p k) (none_below (ends_refusal words p) p.counts.channels n.4 k l));
+        roots = λ k l. (root_decides words p k).0 (passed _ _ (none_below (root_refusal words p) p.counts.partitions n.5 k l));
+        tables = tables;
+        apart = λ a b la lb c. elim (cases_lt a b) [
+          | inl l ↦ apart b lb a (omega arith) (inr c)
+          | inr l ↦ apart a la b l (inl c)
+        ];
+        all_lent = (lent_decides words p tables).0 (passed _ _ n.10);
+      }
 
   module _ (lawful : Lawful bytes words) where
     maps_leaf : (k page : ℕ) (leaf : Leaf) → k < (plan_of bytes).counts.partitions → Leads words (root (plan_of bytes) k) page leaf → Maps words (root (plan_of bytes) k) page leaf
@@ -173,8 +141,7 @@ module _ (bytes words : List ℕ) where
   judged_at : (o : Option Refusal) → first_refusal bytes words (plan_of bytes) ≡ o → Judges bytes words (checked bytes words)
   unfolding checked
   judged_at None e =
-      let lawful = none_lawful (λ d b. all.kept e d (ranked d).some b) in
-      record { accepts = λ _. rw e; cases = rw e (sound lawful) }
+      record { accepts = λ _. rw e; cases = rw e (sound (none_lawful e)) }
   judged_at (Some x) e =
       let z = all.broken x e in
       record {

@@ -1,5 +1,5 @@
 -- Marks that a loop adds to: what was marked, or is by one of the places so far.
-use Rattle.std.proofs.Common.{◌≡◌, ℕ, ◌+◌, ◌<◌, Bool, true, false, ◌||◌, eqb, List, get_or, replicate, sym, refl, ap, ◌∙◌, subst, inl, inr}
+use Rattle.std.proofs.Common.{◌≡◌, ℕ, ◌+◌, ◌<◌, Bool, true, false, ◌||◌, eqb, List, get_or, replicate, sym, refl, ◌∙◌, subst, inl, inr, arith}
 use Rattle.std.proofs.lemmas.Bool.{and_from, and_parts, eq-eqb, eqb-true, or_cases, or_left, or_right, true≢false}
 use Rattle.std.proofs.lemmas.List.{get_or-replicate}
 use Rattle.words.specs.First.{any}
@@ -8,24 +8,14 @@ use Rattle.checker.specs.declared.marks.Marks.{Marks}
 use Rattle.checker.specs.Marks.{names_in}
 use Rattle.checker.specs.Scaffold.{Shows, marked, named_through}
 
-pub or_assoc : (a b c : Bool) → (a || (b || c)) ≡ ((a || b) || c)
-or_assoc true b c = refl
-or_assoc false b c = refl
-
-pub or_unit : (a b : Bool) → b ≡ false → (a || b) ≡ a
-or_unit true b e = refl
-or_unit false b e = e
-
 pub marks_more : (was now gone : Bool) (f : ℕ → Bool) (n : ℕ) → now ≡ (was || any f n) → gone ≡ (now || f n) → gone ≡ (was || any f (n + 1))
-marks_more was now gone f n a b = rw (any_step f n) (b ∙ ap (λ x. x || f n) a ∙ sym (or_assoc was (any f n) (f n)))
+marks_more was now gone f n a b = let z = any_step f n in grind arith
 
 pub marks_none : (was : Bool) (f : ℕ → Bool) → was ≡ (was || any f 0)
-marks_none was f = sym (or_unit was (any f 0) (any_none f))
+marks_none was f = let z = any_none f in grind arith
 
 same : (a b : Bool) → (a ≡ true → b ≡ true) → (b ≡ true → a ≡ true) → a ≡ b
-same true b h k = sym (h refl)
-same false true h k = k refl
-same false false h k = refl
+same a b h k = grind arith
 
 -- what marked tables name, none of them and one more
 module _ (ws : List ℕ) (f : ℕ) where

@@ -30,28 +30,19 @@ use Rattle.checker.proofs.Joined as joined
 
 -- the findings of a rule
 one_kind : (n : ℕ) → (n ≡ 5 → ⊥) → (n ≡ 7 → ⊥) → (d : Finding) → rule_of d ≡ n → d ≡ broken (refusal n (found_at d))
-one_kind n not_5 not_7 (broken e) r = ap broken (at_number e n r)
-one_kind n not_5 not_7 (pages_unread k) r = absurd (not_5 (sym r))
-one_kind n not_5 not_7 (tables_unread k) r = absurd (not_7 (sym r))
+one_kind n not_5 not_7 d r = grind (arith, at_number)
 
 kinds_5 : (d : Finding) → rule_of d ≡ 5 → (d ≡ broken (ChannelPage (found_at d))) ⊎ (d ≡ pages_unread (found_at d))
-kinds_5 (broken e) r = inl (ap broken (at_number e 5 r))
-kinds_5 (pages_unread k) r = inr refl
-kinds_5 (tables_unread k) r = absurd (omega (arith, r))
+kinds_5 d r = grind (arith, at_number)
 
 kinds_7 : (d : Finding) → rule_of d ≡ 7 → (d ≡ broken (TableMalformed (found_at d))) ⊎ (d ≡ tables_unread (found_at d))
-kinds_7 (broken e) r = inl (ap broken (at_number e 7 r))
-kinds_7 (pages_unread k) r = absurd (omega (arith, r))
-kinds_7 (tables_unread k) r = inr refl
+kinds_7 d r = grind (arith, at_number)
 
-refused_none : (e : Refusal) (o : Option Fault) → refused_by e o ≡ None → o ≡ None
-refused_none e None h = refl
-refused_none e (Some f) h = absurd (cc)
+pub refused_none : (e : Refusal) (o : Option Fault) → refused_by e o ≡ None → o ≡ None
+refused_none e o h = grind arith
 
 refused_some : (e d : Refusal) (o : Option Fault) → refused_by e o ≡ Some d → ((o ≡ Some RuleBroken) × (e ≡ d)) ⊎ ((o ≡ Some NotLent) × (FramesMissing ≡ d))
-refused_some e d None h = absurd (cc)
-refused_some e d (Some RuleBroken) h = inl (refl, cc)
-refused_some e d (Some NotLent) h = inr (refl, cc)
+refused_some e d o h = grind arith
 
 pub root_decides : (words : List ℕ) (p : Plan) (k : ℕ) → Decides (root_kept words p k) (RootFits words p k)
 root_decides words p k = (

@@ -2,7 +2,7 @@
 use Rattle.std.specs.Prelude.{◌≡◌, ℕ, List, cond, Option, Some, None, is_some}
 use Rattle.paging.specs.Small.{mapped_in, with_page}
 use Rattle.rv32ui.specs.Memory.{put_at}
-use Rattle.isa.specs.Registers.{held, register}
+use Rattle.isa.specs.Registers.{held, register, written}
 use Rattle.hart.specs.declared.context.State.{State}
 use Rattle.hart.specs.declared.context.State.TheVariants.{Ready, Stopped}
 use Rattle.hart.specs.Causes.{cause_number}
@@ -23,6 +23,14 @@ pub record IsAt (moment : Moment) (m : Machine) : Type 0 where
 -- a fresh program over five frames, with the page tables and nothing else in them: page 18 is frame 4 with R and W, page 19 the code once more
 abbrev pub at_first : Moment
 at_first = begin (first_core 0 0x10000) (with_page (with_page (mapped_in 5120) 18 0x10D7) 19 0x8DB)
+
+-- registers, counter, tables and clock as at first, and the words as they are
+abbrev pub restarted : Moment → Moment
+restarted m = record m { core = first_core 0 0x10000 }
+
+abbrev pub with_register : ℕ → ℕ → Moment → Moment
+with_register r value m =
+    let x = m.core.context in record m { core = record m.core { context = record x { registers = written x.registers (register r) value } } }
 
 -- the counter elsewhere
 abbrev pub at_counter : ℕ → Moment → Moment

@@ -1,10 +1,10 @@
 // A hart with five frames of memory.
 ghost use Rattle.std.specs.Prelude.{◌≡◌, length};
 ghost use Rattle.costs.specs.Cycles.{cycles};
-ghost use Rattle.isa.specs.Registers.{held, register, written};
-ghost use Rattle.hart.specs.Core.{first_core, stepped};
+ghost use Rattle.isa.specs.Registers.{held, register};
+ghost use Rattle.hart.specs.Core.{stepped};
 ghost use Rattle.hart.specs.Moments.{after, next};
-ghost use Rattle.conformance.specs.Running.{IsAt, RunsWords, at_counter, at_first, cause_of, moment_of, value_in, with_code, with_data};
+ghost use Rattle.conformance.specs.Running.{IsAt, RunsWords, at_counter, at_first, cause_of, moment_of, restarted, value_in, with_code, with_data, with_register};
 
 use hart::context::State;
 use hart::step::Core;
@@ -95,11 +95,9 @@ impl Machine {
 }
 
 impl Runner for Machine {
-    ghost restarts = { λ before now. (now.stepper.core ≡ first_core 0 0x10000) × (now.words ≡ before.words) };
+    ghost restarts = { λ before now. IsAt (restarted (moment_of before)) now };
 
-    ghost given = { λ m r v.
-        let x = m.stepper.core.context in
-        record m { stepper = record m.stepper { core = record m.stepper.core { context = record x { registers = written x.registers (register r) v } } } } };
+    ghost gives = { λ before r value now. IsAt (with_register r value (moment_of before)) now };
 
     ghost held = { λ m r. held m.stepper.core.context.registers (register r) };
 

@@ -1,6 +1,6 @@
 // What one instruction used, and what that costs.
 ghost use Rattle.std.specs.Prelude.{◌≡◌};
-ghost use Rattle.costs.specs.Cycles.{cache_cycles, cycles, plain};
+ghost use Rattle.costs.specs.Cycles.{cache_cycles, cycles, plain, walk_cycles};
 
 use crate::{INSTRUCTION, MISPREDICTION, MISS, WALK, WRITE_BACK};
 
@@ -25,6 +25,14 @@ impl CacheUse {
             CacheUse::DirtyMiss => MISS + WRITE_BACK,
         }
     }
+}
+
+// The cycles of a look-up that walked the page table, or did not.
+#[inline]
+pub fn walk_cycles(walked: bool) -> u32
+    ensures { result ≡ walk_cycles walked }
+{
+    if walked { WALK } else { 0 }
 }
 
 // What an instruction used, in the order in which it used it.
@@ -57,8 +65,11 @@ impl Used {
     pub fn cycles(self) -> u32
         ensures { result ≡ cycles self }
     {
-        let walks = u32::from(self.fetch_walked) + u32::from(self.data_walked);
-        let wrong = u32::from(self.mispredicted);
-        INSTRUCTION + walks * WALK + self.cache.cycles() + wrong * MISPREDICTION
+        let wrong = if self.mispredicted { MISPREDICTION } else { 0 };
+        INSTRUCTION
+            + walk_cycles(self.fetch_walked)
+            + walk_cycles(self.data_walked)
+            + self.cache.cycles()
+            + wrong
     }
 }

@@ -2,7 +2,7 @@
 use Rattle.std.proofs.Common.{◌≡◌, ℕ, ◌+◌, ◌*◌, ◌/◌, ◌<◌, ◌≤◌, true, ltb, ◌≢◌, ◌⊎◌, List, get_or, length, sym, refl, ap, ◌∙◌, subst, inl, inr, arith}
 use Rattle.std.proofs.lemmas.List.{get_or-replicate, get_or-set_other, length-set}
 use Rattle.std.proofs.lemmas.Bool.{cases_eq, true≢false}
-use Rattle.words.specs.Frames.{word, written}
+use Rattle.words.specs.Frames.{word}
 use Rattle.paging.specs.declared.leaf.Leaf.{Leaf}
 use Rattle.paging.specs.Entries.{flag, frame_of, is_valid}
 use Rattle.paging.specs.Mapping.{LeafEntry, Maps, Pointer}

@@ -1,10 +1,10 @@
 -- What a step keeps, with any tables.
-use Rattle.std.proofs.Common.{◌≡◌, ℕ, ◌/◌, ◌%◌, ◌≤◌, Bool, true, false, eqb, ◌⊎◌, List, length, ℤ, Some, None, Option, unwrap_or, sym, refl, ap, ◌∙◌, inl, inr, arith}
+use Rattle.std.proofs.Common.{◌≡◌, ℕ, ◌+◌, ◌/◌, ◌%◌, ◌≤◌, Bool, true, false, eqb, ◌⊎◌, List, length, ℤ, Some, None, Option, unwrap_or, sym, refl, ap, ◌∙◌, inl, inr, arith}
 use Rattle.std.proofs.lemmas.List.{length-set, length-replicate}
 use Rattle.std.proofs.lemmas.Bool.{cases_Bool, eqb-true}
 use Rattle.costs.specs.declared.used.CacheUse.TheVariants.{Unused}
 use Rattle.costs.specs.Costs.{worst_instruction}
-use Rattle.costs.specs.Cycles.{cycles}
+use Rattle.costs.specs.Cycles.{cycles, walk_cycles}
 use Rattle.costs.proofs.Bounds.{bounds}
 use Rattle.words.specs.Frames.{word}
 use Rattle.isa.specs.declared.register.Register.{Register}
@@ -24,7 +24,7 @@ use Rattle.tables.specs.Cache.{is_store, line_of}
 use Rattle.tables.specs.Honest.{Honest}
 use Rattle.tables.proofs.Lines.{whole_accessed, whole_empty}
 use Rattle.tables.proofs.Pages.{whole_used}
-use Rattle.tables.proofs.Truth.{honesty, unwalked_look}
+use Rattle.tables.proofs.Truth.{honesty}
 use Rattle.tables.proofs.Turns.{counters_stay}
 use Rattle.hart.specs.declared.cause.Cause.{Cause}
 use Rattle.hart.specs.declared.cause.Cause.TheVariants.{IllegalInstruction, FetchMisaligned, FetchFault}
@@ -35,8 +35,7 @@ use Rattle.hart.specs.declared.step.Core.{Core}
 use Rattle.hart.specs.Architecture.{Outcome}
 use Rattle.hart.specs.Causes.{fault_cause, misaligned_cause}
 use Rattle.hart.specs.Execution.{branch_context, goes_on, misses_target, next_pc, register_set, stopped}
-use Rattle.hart.specs.Core.{Step, after_lookup, data_access, executed, fetch_step, instruction_step, leads_to, program_step, stepped, word_step}
-use Rattle.hart.specs.Scaffold.{run_from}
+use Rattle.hart.specs.Core.{Step, after_lookup, data_access, executed, fetch_step, instruction_step, leads_to, program_step, stepped, with_fetch, word_step}
 use Rattle.hart.specs.Steps.{SetOne, StayWhole, Steps, WholeTables, fetched}
 use Rattle.hart.proofs.Cases.{access_cases, by_state, fetch_cases}
 
@@ -264,30 +263,27 @@ pub step_honest : (core : Core) (ws : List ℕ) → Honest core.tables.tlb ws co
 unfolding stepped
 step_honest core ws = (program_kept core ws).honest
 
--- an access that walked nothing leaves the TLB as it was
-access_still : (core : Core) (ws : List ℕ) (access : Access) (bytes address : ℕ) (at : Place → Outcome) →
-    (data_access core ws access bytes address at).used.data_walked ≡ false → (data_access core ws access bytes address at).core.tables.tlb ≡ core.tables.tlb
-access_still core ws access bytes address at =
-    let still = unwalked_look core.tables.tlb (address / 4096) access (walked ws core.root (address / 4096)) in
-    access_cases (λ s. s.used.data_walked ≡ false → s.core.tables.tlb ≡ core.tables.tlb) core ws access bytes address at (λ _ _ _. still) (λ _ _. still) (λ _ _. refl)
+-- a fetch is told of by the fetch alone
+module _ (core : Core) (ws : List ℕ) where
+  access_unfetched : (access : Access) (bytes address : ℕ) (at : Place → Outcome) → (data_access core ws access bytes address at).used.fetch_walked ≡ false
+  access_unfetched access bytes address at = access_cases (λ s. s.used.fetch_walked ≡ false) core ws access bytes address at (λ _ _ _. refl) (λ _ _. refl) (λ _. refl)
 
--- and so does an instruction
-executed_still : (core : Core) (ws : List ℕ) (d : Effect) → (executed core ws d).used.data_walked ≡ false → (executed core ws d).core.tables.tlb ≡ core.tables.tlb
-unfolding executed
-executed_still core ws (sets rd value) e = refl
-executed_still core ws (jumps rd target) e = refl
-executed_still core ws (branches taken target) e = refl
-executed_still core ws (loads width rd address) e = access_still core ws _ _ _ _ e
-executed_still core ws (stores width address value) e = access_still core ws _ _ _ _ e
+  executed_unfetched : (d : Effect) → (executed core ws d).used.fetch_walked ≡ false
+  unfolding executed
+  executed_unfetched (sets rd value) = refl
+  executed_unfetched (jumps rd target) = refl
+  executed_unfetched (branches taken target) = refl
+  executed_unfetched (loads width rd address) = access_unfetched _ _ _ _
+  executed_unfetched (stores width address value) = access_unfetched _ _ _ _
 
-instruction_still : (core : Core) (ws : List ℕ) (o : Option Instruction) →
-    (instruction_step core ws o).used.data_walked ≡ false → (instruction_step core ws o).core.tables.tlb ≡ core.tables.tlb
-instruction_still core ws None e = refl
-instruction_still core ws (Some i) e = executed_still core ws (effect_of i core.context.registers core.context.pc core.clock) e
+  instruction_unfetched : (o : Option Instruction) → (instruction_step core ws o).used.fetch_walked ≡ false
+  instruction_unfetched None = refl
+  instruction_unfetched (Some i) = executed_unfetched (effect_of i core.context.registers core.context.pc core.clock)
 
-pub unwalked : (core : Core) (ws : List ℕ) (frame : ℕ) → (run_from core ws frame).used.data_walked ≡ false → (run_from core ws frame).core.tables.tlb ≡ core.tables.tlb
+-- the cycles of a fetch and of the rest
+pub took_fetch : (core : Core) (ws : List ℕ) (w : ℕ) (walked : Bool) → cycles (with_fetch walked (word_step core ws w)).used ≡ cycles (word_step core ws w).used + walk_cycles walked
 unfolding word_step
-unwalked core ws frame e = instruction_still core ws (decoded (word ws frame (core.context.pc % 4096 / 4))) e
+took_fetch core ws w walked = let none : walk_cycles (word_step core ws w).used.fetch_walked ≡ 0 = ap walk_cycles (instruction_unfetched core ws (decoded w)) in omega (arith, none)
 
 -- a load changes no word
 pub load_words : (core : Core) (ws : List ℕ) (width : LoadWidth) (rd : Register) (address : ℕ) → (executed core ws (loads width rd address)).words ≡ ws

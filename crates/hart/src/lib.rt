@@ -3,7 +3,6 @@
 
 pub mod cause;
 pub mod context;
-mod execute;
 pub mod laws;
 mod memory;
 pub mod step;

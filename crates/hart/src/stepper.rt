@@ -7,15 +7,18 @@ ghost use Rattle.paging.specs.declared.access.Access.TheVariants.{Fetch};
 ghost use Rattle.tables.specs.Tlb.{found, hit};
 ghost use Rattle.hart.specs.Core.{fetch_step, looked_up, on_time, stepped};
 ghost use Rattle.hart.specs.Moments.{run_until};
-ghost use Rattle.hart.specs.Scaffold.{faulted, moment};
+ghost use Rattle.hart.specs.Scaffold.{faulted, moment, opened};
 
 use crate::step::Core;
-use costs::used::Used;
+use costs::used::walk_cycles;
 use costs::{INSTRUCTION, WORST_INSTRUCTION};
 use isa::decoder::Decoder;
 use paging::access::Access;
 use paging::place::PAGE_BYTES;
 use tables::tlb::Lookup;
+use words::frames;
+
+mod execute;
 
 // No instruction begins so late that it could take the clock past its 64 bits.
 const LATEST: u64 = u64::MAX - WORST_INSTRUCTION as u64 + 1;
@@ -25,6 +28,24 @@ const LATEST: u64 = u64::MAX - WORST_INSTRUCTION as u64 + 1;
 struct Window {
     page: u32,
     frame: u32,
+}
+
+// What a fetch finds: the frame of its page, and the cycles of the look-up. A call that answers a `Lookup` has the loop clear its padding every time.
+#[derive(Clone, Copy)]
+struct Opened {
+    frame: Option<u32>,
+    cycles: u32,
+}
+
+impl Opened {
+    fn by(found: Lookup) -> Self
+        ensures { result ≡ opened found }
+    {
+        Opened {
+            frame: found.frame,
+            cycles: walk_cycles(found.walked),
+        }
+    }
 }
 
 impl Window {
@@ -103,60 +124,52 @@ impl Stepper {
         ensures core { self.new.core ≡ (on_time (fetch_step self.old.core words.old)).core }
         ensures words { words.new ≡ (fetch_step self.old.core words.old).words }
     {
-        let cycles = self.fetch_and_run(words).cycles();
+        let cycles = self.fetch_and_run(words);
         self.core.clock = self.core.clock.wrapping_add(u64::from(cycles));
         cycles
     }
 
     #[inline]
-    #[tactic(auto, unfolding(crate::specs::Core::fetch_step))]
-    fn fetch_and_run(&mut self, words: &mut [u32]) -> Used
-        ensures used { result ≡ (fetch_step self.old.core words.old).used }
+    #[tactic(auto, using(crate::proofs::Stepping::took_fetch), unfolding(crate::specs::Core::fetch_step))]
+    fn fetch_and_run(&mut self, words: &mut [u32]) -> u32
+        ensures cost { result ≡ cycles (fetch_step self.old.core words.old).used }
         ensures core { self.new.core ≡ (fetch_step self.old.core words.old).core }
         ensures words { words.new ≡ (fetch_step self.old.core words.old).words }
     {
-        let found = self.fetch(words);
-        let Some(frame) = found.frame else {
-            return Used {
-                fetch_walked: found.walked,
-                ..Used::plain()
-            };
+        let fetch = self.fetch(words);
+        let Some(frame) = fetch.frame else {
+            return INSTRUCTION + fetch.cycles;
         };
-        let used = self.core.run_in(frame, words, &mut self.decoder);
-        if used.data_walked {
-            self.window = None;
-        }
-        Used {
-            fetch_walked: found.walked,
-            ..used
-        }
+        let word = frames::read(words, frame, self.core.context.pc % PAGE_BYTES / 4);
+        self.run_word(word, words) + fetch.cycles
     }
 
     // Finds the frame of the page at the counter, as `Core::look_up` does.
     #[inline]
-    fn fetch(&mut self, words: &[u32]) -> Lookup
-        ensures found { result ≡ looked_up self.old.core words.now self.old.core.context.pc Fetch }
+    fn fetch(&mut self, words: &[u32]) -> Opened
+        ensures found { result ≡ opened (looked_up self.old.core words.now self.old.core.context.pc Fetch) }
         ensures core { self.new.core ≡ faulted self.old.core words.now self.old.core.context.pc Fetch result.frame }
     {
         let page = self.core.context.pc / PAGE_BYTES;
         match self.window {
-            Some(window) if window.page == page => Lookup {
+            Some(window) if window.page == page => Opened::by(Lookup {
                 frame: Some(window.frame),
                 walked: false,
-            },
+            }),
             _ => self.open(words),
         }
     }
 
     // Looks the page up and remembers it. A call of its own: in place it would take the loop's registers.
+    #[cold]
     #[inline(never)]
-    fn open(&mut self, words: &[u32]) -> Lookup
-        ensures found { result ≡ looked_up self.old.core words.now self.old.core.context.pc Fetch }
+    fn open(&mut self, words: &[u32]) -> Opened
+        ensures found { result ≡ opened (looked_up self.old.core words.now self.old.core.context.pc Fetch) }
         ensures core { self.new.core ≡ faulted self.old.core words.now self.old.core.context.pc Fetch result.frame }
     {
         let pc = self.core.context.pc;
         let found = self.core.look_up(words, pc, Access::Fetch);
         self.window = Window::after(pc / PAGE_BYTES, found);
-        found
+        Opened::by(found)
     }
 }

@@ -1,6 +1,6 @@
 -- What number and turn say of a refusal, and what the tests of the plan's own rules say of the plan.
-use Rattle.std.proofs.Common.{◌≡◌, ℕ, zero, suc, ◌+◌, ◌<◌, ◌≤◌, Bool, true, false, List, get_or, None, Some, Decides, sym, refl, ap, ◌∙◌, subst, inl, inr, arith}
-use Rattle.std.proofs.lemmas.Bool.{cases_eq, leb-true}
+use Rattle.std.proofs.Common.{◌≡◌, ℕ, zero, suc, ◌+◌, ◌<◌, ◌≤◌, Bool, true, false, List, get_or, None, Some, Decides, sym, ap, ◌∙◌, subst, arith}
+use Rattle.std.proofs.lemmas.Bool.{leb-true}
 use Rattle.std.proofs.lemmas.Bool.Decides.{nat_tests}
 use Rattle.costs.specs.Costs.{worst_switch}
 use Rattle.words.specs.First.{first, most}
@@ -9,7 +9,7 @@ use Rattle.plan.specs.declared.model.Plan.{Plan}
 use Rattle.plan.specs.declared.refusal.Count.{Count}
 use Rattle.plan.specs.declared.refusal.Count.TheVariants.{Partitions, Slots, Channels}
 use Rattle.plan.specs.declared.refusal.Refusal.{Refusal}
-use Rattle.plan.specs.declared.refusal.Refusal.TheVariants.{Truncated, CountRange, SlotRule, ChannelRule, ChannelPage, RootRule, TableMalformed, FrameShared, StartMisaligned, BudgetRule, FramesMissing, Surplus}
+use Rattle.plan.specs.declared.refusal.Refusal.TheVariants.{CountRange}
 use Rattle.plan.specs.Format.{plan_of}
 use Rattle.plan.specs.Refused.{AllRanked, Named, RankTells, Ranked, count_at, count_place, number_of, index_in, place_of, rank, refusal, turns}
 use Rattle.plan.specs.Rules.{broken_unless, budget_fault, budget_kept, channel_fault, channel_kept, count_fault, count_kept, slot_fault, slot_kept, start_fault, start_kept, surplus, truncated}
@@ -18,43 +18,17 @@ use Rattle.plan.proofs.Copying.{cycles_of}
 use Rattle.plan.specs.Lawful.{BudgetFits, ChannelFits, CountFits, PlanLawful, SlotFits, StartFits}
 
 pub passed : (kept : Bool) (e : Refusal) → broken_unless kept e ≡ None → kept ≡ true
-passed true e h = refl
-passed false e h = absurd (cc)
+passed kept e h = grind arith
 
 pub failed : (kept : Bool) (e d : Refusal) → broken_unless kept e ≡ Some d → (kept ≡ false) × (d ≡ e)
-failed true e d h = absurd (cc)
-failed false e d h = (refl, cc)
+failed kept e d h = grind arith
 
 pub named : Named
-named (Truncated at) = refl
-named (CountRange Partitions) = refl
-named (CountRange Slots) = refl
-named (CountRange Channels) = refl
-named (SlotRule k) = refl
-named (ChannelRule k) = refl
-named (ChannelPage k) = refl
-named (RootRule k) = refl
-named (TableMalformed k) = refl
-named (FrameShared k) = refl
-named (StartMisaligned k) = refl
-named BudgetRule = refl
-named FramesMissing = refl
-named (Surplus at) = refl
+named e = grind arith
 
 pub all_ranked : AllRanked
 unfolding index_in
-all_ranked (Truncated at) = record { some = omega arith; asked = refl }
-all_ranked (CountRange c) = record { some = omega arith; asked = refl }
-all_ranked (SlotRule k) = record { some = omega arith; asked = refl }
-all_ranked (ChannelRule k) = record { some = omega arith; asked = refl }
-all_ranked (ChannelPage k) = record { some = omega arith; asked = refl }
-all_ranked (RootRule k) = record { some = omega arith; asked = refl }
-all_ranked (TableMalformed k) = record { some = omega arith; asked = refl }
-all_ranked (FrameShared k) = record { some = omega arith; asked = refl }
-all_ranked (StartMisaligned k) = record { some = omega arith; asked = refl }
-all_ranked BudgetRule = record { some = omega arith; asked = refl }
-all_ranked FramesMissing = record { some = omega arith; asked = refl }
-all_ranked (Surplus at) = record { some = omega arith; asked = refl }
+all_ranked e = record { some = grind arith; asked = grind arith }
 
 pub same_number : (m n : ℕ) → Ranked m → Ranked n → rank m ≡ rank n → m ≡ n
 same_number m n a b same = sym a.asked ∙ ap (λ turn. get_or turns turn 0) same ∙ b.asked
@@ -103,23 +77,13 @@ budget_decides p = (
 )
 
 pub count_place_at : (k : ℕ) → k < 3 → place_of (CountRange (count_at k)) ≡ k
-count_place_at k l = elim (cases_eq k 0) [
-  | inl e ↦ rw e refl
-  | inr a ↦ elim (cases_eq k 1) [
-    | inl e ↦ rw e refl
-    | inr b ↦ let e : k ≡ 2 = omega arith in rw e refl
-  ]
-]
+count_place_at k l = grind (arith, nat_tests)
 
 count_is : (c : Count) → count_at (count_place c) ≡ c
-count_is Partitions = refl
-count_is Slots = refl
-count_is Channels = refl
+count_is c = grind arith
 
 pub count_place_below : (c : Count) → count_place c < 3
-count_place_below Partitions = omega arith
-count_place_below Slots = omega arith
-count_place_below Channels = omega arith
+count_place_below c = grind arith
 
 -- bytes whose every rule answers that it is kept
 pub kept_lawful : (bytes : List ℕ) → truncated bytes (plan_of bytes) ≡ None → first (count_fault (plan_of bytes).counts) 3 ≡ None →

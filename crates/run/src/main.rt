@@ -8,7 +8,6 @@ use console::slots::Slots;
 use hart::step::Core;
 use hart::stepper::Stepper;
 use kernel::report::Report;
-use separation::run::run as run_slots;
 use separation::supervisor::Supervisor;
 use std::io::{BufWriter, Write};
 use std::process::ExitCode;
@@ -43,11 +42,11 @@ fn run(rt: &HostRuntime) -> Result<(), Problem> {
     at_most(&words, options + usize::from(last_only))?;
     let count = slots.count(rt)?;
     let files = Files::read(rt, plan, image)?;
-    let mut opened = admission::open(rt.alloc(), &files.plan, &files.image)??;
     if last_only {
-        let finished = run_slots(opened.accepted, &mut opened.words, count);
-        return Ok(print_last(rt, finished.last)?);
+        let whole = whole_run::run(rt.alloc(), &files.plan, &files.image, count)??;
+        return Ok(print_last(rt, whole.finished.last)?);
     }
+    let mut opened = admission::open(rt.alloc(), &files.plan, &files.image)??;
     let mut supervisor = Supervisor::start(opened.accepted);
     Ok(print_slots(rt, &mut supervisor, &mut opened.words, count)?)
 }

@@ -7,11 +7,15 @@ use Rattle.rv32ui.specs.declared.row.Row.{Row}
 use Rattle.rv32ui.specs.Roles.{roles_of}
 use Rattle.rv32ui.specs.Words.{operand_format, branch_format, upper_format}
 
--- after a restart: the operands in their registers, and then a write to register 0
-abbrev pub prepared : {S : Type 0} → (S → ℕ → ℕ → S) → Row → S → S
-prepared given row core =
-    let roles = roles_of row.0 in
-    given (given (given core roles.first row.2) roles.second row.3) 0 (2 ^ 32 - 1)
+-- after a restart the operands are put into their registers, and then a value into register 0
+pub record Prepared {S : Type 0} (restarts : S → S → Type 0) (gives : S → ℕ → ℕ → S → Type 0) (row : Row) (core now : S) : Type 0 where
+  pub fresh : S
+  pub with_first : S
+  pub with_both : S
+  pub restarted : restarts core fresh
+  pub first : gives fresh (roles_of row.0).first row.2 with_first
+  pub second : gives with_first (roles_of row.0).second row.3 with_both
+  pub last : gives with_both 0 (2 ^ 32 - 1) now
 
 -- the words, where the second of two is SRAI or ADDI
 abbrev pub words_by : Form → ℕ → Row → List ℕ

@@ -1,17 +1,17 @@
 // What runs the vectors, and what a vector gives there.
 ghost use Rattle.std.specs.Prelude.{◌≡◌, ℕ, List, Option};
-ghost use Rattle.rv32ui.specs.Outcome.{prepared, reading, told, words_of};
+ghost use Rattle.rv32ui.specs.Outcome.{Prepared, reading, told, words_of};
 ghost use Rattle.rv32ui.specs.Roles.{roles_of};
 
 use crate::operation::{Form, Operation};
 use crate::row::{Roles, Row};
 use crate::word::*;
 
-// A core that runs words. What a restart and a run of words leave is for each core to say.
+// A core that runs words. What a call leaves is for each core to say.
 pub trait Runner {
     ghost restarts: { Self → Self → Type 0 };
 
-    ghost given: { Self → ℕ → ℕ → Self };
+    ghost gives: { Self → ℕ → ℕ → Self → Type 0 };
 
     ghost held: { Self → ℕ → ℕ };
 
@@ -24,7 +24,7 @@ pub trait Runner {
         ensures { restarts self.old self.new };
 
     fn set(&mut self, register: u32, value: u32)
-        ensures { self.new ≡ given self.old register value };
+        ensures { gives self.old register value self.new };
 
     fn get(&self, register: u32) -> u32
         ensures { result ≡ held self.now register };
@@ -39,7 +39,7 @@ pub trait Runner {
 
 // Puts the operands of a row into their registers. A write to register 0 comes last: it must not show.
 fn prepare<R: Runner>(core: &mut R, row: Row)
-    ensures { (start : R) × R.restarts core.old start × core.new ≡ prepared R.given row start }
+    ensures { Prepared R.restarts R.gives row core.old core.new }
 {
     let Row(place, _, left, right) = row;
     let Roles { first, second, .. } = place.roles();
@@ -51,12 +51,11 @@ fn prepare<R: Runner>(core: &mut R, row: Row)
 
 // What a row of an operation gives; none where its words are not run.
 pub fn outcome<R: Runner>(core: &mut R, operation: &Operation, row: Row) -> Option<u32>
-    ensures { (start : R)
-        × R.restarts core.old start
-        × (let first = prepared R.given row start in
-        (ran : Option Unit)
+    ensures { (first : R)
+        × Prepared R.restarts R.gives row core.old first
+        × (ran : Option Unit)
         × R.runs first (words_of operation.now row) ran core.new
-        × result ≡ told ran (reading operation.now.form (R.counter first) (R.counter core.new) (R.held core.new (roles_of row.0).target))) }
+        × result ≡ told ran (reading operation.now.form (R.counter first) (R.counter core.new) (R.held core.new (roles_of row.0).target)) }
 {
     let Row(place, _, left, right) = row;
     let Operation { form, fixed, .. } = *operation;

@@ -1,30 +1,51 @@
 -- The words of the sample's memory, and what follows for its page tables.
-use Rattle.std.proofs.Common.{◌≡◌, ℕ, zero, suc, ◌+◌, ◌*◌, ◌/◌, ◌%◌, ◌<◌, ◌≤◌, true, false, ◌≢◌, ◌⊎◌, length, sym, refl, ap, ◌∙◌, subst, arith}
+use Rattle.std.proofs.Common.{◌≡◌, ℕ, zero, suc, ◌+◌, ◌*◌, ◌/◌, ◌%◌, ◌<◌, ◌≤◌, true, false, ◌≢◌, List, length, sym, refl, ap, ◌∙◌, arith}
 use Rattle.std.proofs.lemmas.List.FromFn.{get_or-map-range_with_len, length-map-range_with_len}
 use Rattle.std.proofs.lemmas.Bool.{eq-eqb, ne_eqb, true≢false}
-use Rattle.words.specs.First.{first, most}
 use Rattle.words.specs.Frames.{word}
-use Rattle.paging.specs.Entries.{flag}
+use Rattle.paging.specs.declared.leaf.Leaf.{Leaf}
 use Rattle.paging.specs.Mapping.{InMemory, Pointer}
-use Rattle.paging.specs.Tables.{KernelFrame, Names}
-use Rattle.plan.specs.Switch.{messages}
+use Rattle.plan.specs.declared.model.Endpoint.{Endpoint}
+use Rattle.plan.specs.declared.model.Plan.{Plan}
 use Rattle.plan.specs.Format.{plan_of, rows}
-use Rattle.plan.specs.Lawful.{PlanLawful}
-use Rattle.plan.proofs.Decides.{kept_lawful}
-use Rattle.checker.specs.Lawful.{Formed, Joins, Leads, Lent, PagesFit, RootFits, root}
-use Rattle.sample.specs.Memory.{Layout, memory, root_entry, table_entry, two, word_in, reads, runs, writes}
+use Rattle.checker.specs.declared.pages.Ends.{Ends}
+use Rattle.checker.specs.Lawful.{Formed, Joins, Leads, Lent, PagesFit, RootFits, Usable, root}
+use Rattle.sample.specs.Memory.{Layout, memory, reads, runs, two, word_in, writes}
 use Rattle.sample.specs.Verdicts.{Free}
-use Rattle.sample.proofs.Entries.{pointer, reads_leaf, runs_leaf, writes_leaf}
-use Rattle.sample.proofs.Tables.{its_form, its_frames, its_kernel, leads_16, leads_17, names_a}
+use Rattle.sample.proofs.Entries.{pointer, reads_leaf, runs_leaf, to_read, to_run, to_write, writes_leaf}
+use Rattle.sample.proofs.Tables.{Mapped, its_form, leads_17}
 
-pub plan_lawful : PlanLawful two
-unfolding first most messages plan_of rows
-plan_lawful = kept_lawful two refl refl refl refl refl refl refl
+-- what holds at 0 holds below 1
+pub at_0 : (P : ℕ → Type 0) → P 0 → (k : ℕ) → k < 1 → P k
+at_0 P here zero l = here
+at_0 P here (suc k) l = absurd (omega arith)
 
-own_root : (j : ℕ) → j < 1 → root (plan_of two) j ≢ 3
+-- a plan of two partitions, the first with root 0
+pub record Rooted (p : Plan) (r : ℕ) : Type 0 where
+  pub both : p.counts.partitions ≡ 2
+  pub first : root p 0 ≡ 0
+  pub second : root p 1 ≡ r
+
+module _ {p : Plan} {r : ℕ} (is : Rooted p r) where
+  pub each_root : (P : ℕ → Type 0) → P 0 → P r → (k : ℕ) → k < p.counts.partitions → P (root p k)
+  each_root P a b zero l = rw is.first a
+  each_root P a b (suc zero) l = rw is.second b
+  each_root P a b (suc (suc k)) l = absurd (omega (arith, is.both))
+
+pub two_rooted : Rooted (plan_of two) 3
 unfolding plan_of rows
-own_root zero b e = omega (arith, e)
-own_root (suc j) b e = omega arith
+two_rooted = record { both = refl; first = refl; second = refl }
+
+module _ {ws : List ℕ} {p : Plan} where
+  -- ends that may be read, and, where they receive, not written
+  pub sends : {end : Endpoint} {leaf : Leaf} → Leads ws (root p end.partition) end.page leaf → leaf.readable ≡ true → Usable ws p end false leaf.frame
+  sends leads readable = record { leaf = _; leads = leads; readable = readable; not_writable = λ e. absurd (true≢false (sym e)); frame_is = refl }
+
+  pub receives : {end : Endpoint} {leaf : Leaf} → Leads ws (root p end.partition) end.page leaf → leaf.readable ≡ true → leaf.writable ≡ false → Usable ws p end true leaf.frame
+  receives leads readable fixed = record { leaf = _; leads = leads; readable = readable; not_writable = λ e. fixed; frame_is = refl }
+
+  pub first_fits : {ends : Ends} → Joins ws p 0 ends → PagesFit ws p 0
+  first_fits joins = record { ends = _; joins = joins; alone = λ j b. absurd (omega arith) }
 
 -- the frames that the rule on channels' pages reads
 pub record Tabled (l : Layout) : Type 0 where
@@ -37,6 +58,15 @@ module _ (l : Layout) (content : ℕ → ℕ → ℕ) where
   pub long : length (memory l content) ≡ l.frames * 1024
   unfolding memory
   long = length-map-range_with_len (λ i. word_in l content (i / 1024) (i % 1024)) 0 (l.frames * 1024)
+
+  pub roots : {p : Plan} {r : ℕ} → Rooted p r → 0 < r → r < 256 → l.frames ≤ 256 → (k : ℕ) → k < p.counts.partitions → RootFits (memory l content) p k
+  roots is some below few zero g = record { few = omega (arith, long, few); below = omega (arith, is.first); own = λ j b e. omega arith }
+  roots {p} is some below few (suc zero) g = record {
+    few = omega (arith, long, few);
+    below = omega (arith, is.second);
+    own = at_0 (λ j. root p j ≢ root p 1) (λ e. omega (arith, some, e, is.first, is.second));
+  }
+  roots is some below few (suc (suc k)) g = absurd (omega (arith, is.both))
 
   pub word_at : (f k : ℕ) → f < l.frames → k < 1024 → word (memory l content) f k ≡ word_in l content f k
   unfolding memory
@@ -53,96 +83,45 @@ module _ (l : Layout) (content : ℕ → ℕ → ℕ) where
   pub there : (f : ℕ) → f < 256 → f < l.frames → InMemory (memory l content) f
   there f b g = record { below = b; lent = lent_at f g }
 
-  module _ (enough : 6 < l.frames) where
-    pub first_root : (k : ℕ) → k < 1024 → word (memory l content) 0 k ≡ root_entry 1 k
-    first_root k g = word_at 0 k (omega (arith, enough)) g
+  pub mapped_0 : 6 < l.frames → Mapped (memory l content) 0 1 (to_run 2) (to_write 6)
+  mapped_0 enough = record {
+    entry_16 = runs 2;
+    entry_17 = writes 6;
+    leaf_16 = runs_leaf 2;
+    leaf_17 = writes_leaf 6;
+    root_words = λ k g. word_at 0 k (omega (arith, enough)) g;
+    table_words = λ k g. word_at 1 k (omega (arith, enough)) g;
+    root_there = there 0 (omega arith) (omega (arith, enough));
+    table_there = there 1 (omega arith) (omega (arith, enough));
+  }
 
-    pub first_table : (k : ℕ) → k < 1024 → word (memory l content) 1 k ≡ table_entry (runs 2) (writes 6) k
-    first_table k g = word_at 1 k (omega (arith, enough)) g
-
-    pub second_root : (k : ℕ) → k < 1024 → word (memory l content) 3 k ≡ root_entry l.table k
-    second_root k g = word_at 3 k (omega (arith, enough)) g
-
-    pub second_points : Pointer (word (memory l content) 3 0) l.table
-    second_points = subst (λ e. Pointer e l.table) (sym (second_root 0 (omega arith))) (pointer l.table)
-
-    pub named_0 : (f : ℕ) → Names (memory l content) 0 f → (f ≡ 2) ⊎ (f ≡ 6)
-    unfolding flag
-    named_0 = its_frames (memory l content) 0 1 2 6 0xDB 0xD7 first_root first_table (omega arith) (omega arith) refl refl
-
-    pub names_2 : Names (memory l content) 0 2
-    unfolding flag
-    names_2 = names_a (memory l content) 0 1 2 6 0xDB 0xD7 first_root first_table (omega arith) (omega arith) refl refl
-
-    pub held_0 : (f : ℕ) → KernelFrame (memory l content) 0 f → (f ≡ 0) ⊎ (f ≡ 1)
-    unfolding flag
-    held_0 = its_kernel (memory l content) 0 1 2 6 0xDB 0xD7 first_root first_table (omega arith) (omega arith) refl refl
-
-    pub formed_0 : Formed (memory l content) 0
-    unfolding flag
-    formed_0 = its_form (memory l content) 0 1 2 6 0xDB 0xD7 first_root first_table (omega arith) (omega arith) refl refl
-        (lent_at 0 (omega (arith, enough))) (there 1 (omega arith) (omega (arith, enough))) (omega arith) (omega arith)
-
-    pub leads_first_16 : Leads (memory l content) 0 16 (record { frame = 2; readable = true; writable = false; executable = true })
-    unfolding flag
-    leads_first_16 = leads_16 (memory l content) 0 1 2 6 0xDB 0xD7 first_root first_table (omega arith) (omega arith) refl refl
-        (there 0 (omega arith) (omega (arith, enough))) (there 1 (omega arith) (omega (arith, enough))) _ (runs_leaf 2) (omega arith)
-
-    pub leads_first_17 : Leads (memory l content) 0 17 (record { frame = 6; readable = true; writable = true; executable = false })
-    unfolding flag
-    leads_first_17 = leads_17 (memory l content) 0 1 2 6 0xDB 0xD7 first_root first_table (omega arith) (omega arith) refl refl
-        (there 0 (omega arith) (omega (arith, enough))) (there 1 (omega arith) (omega (arith, enough))) _ (writes_leaf 6) (omega arith)
+  pub second_points : 6 < l.frames → Pointer (word (memory l content) 3 0) l.table
+  second_points enough = rw (word_at 3 0 (omega (arith, enough)) (omega arith)) (pointer l.table)
 
   module _ (h : Tabled l) where
-    second_table : (k : ℕ) → k < 1024 → word (memory l content) l.table k ≡ table_entry (runs l.code) (reads l.mailbox) k
-    second_table k g =
+    pub mapped_1 : Mapped (memory l content) 3 l.table (to_run l.code) (to_read l.mailbox)
+    mapped_1 =
         let t = l.table in
-        word_at t k h.table.2 g
-        ∙ (rw (ne_eqb t 0 (λ e. omega (arith, h.table.0)), ne_eqb t 1 (λ e. omega (arith, h.table.0)), ne_eqb t 3 (λ e. omega (arith, h.table.0)), eq-eqb t t refl) refl)
+        let other : (f : ℕ) → f < 4 → t ≢ f = λ f b e. omega (arith, h.table.0, b, e) in
+        record {
+          entry_16 = runs l.code;
+          entry_17 = reads l.mailbox;
+          leaf_16 = runs_leaf l.code;
+          leaf_17 = reads_leaf l.mailbox;
+          root_words = λ k g. word_at 3 k (omega (arith, h.enough)) g;
+          table_words = λ k g. word_at t k h.table.2 g
+              ∙ (rw (ne_eqb t 0 (other 0 (omega arith)), ne_eqb t 1 (other 1 (omega arith)), ne_eqb t 3 (other 3 (omega arith)), eq-eqb t t refl) refl);
+          root_there = there 3 (omega arith) (omega (arith, h.enough));
+          table_there = there t h.below h.table.2;
+        }
 
-    pub named_1 : (f : ℕ) → Names (memory l content) 3 f → (f ≡ l.code) ⊎ (f ≡ l.mailbox)
-    unfolding flag
-    named_1 = its_frames (memory l content) 3 l.table l.code l.mailbox 0xDB 0xD3 (second_root h.enough) second_table (omega arith) (omega arith) refl refl
-
-    pub names_code : Names (memory l content) 3 l.code
-    unfolding flag
-    names_code = names_a (memory l content) 3 l.table l.code l.mailbox 0xDB 0xD3 (second_root h.enough) second_table (omega arith) (omega arith) refl refl
-
-    pub held_1 : (f : ℕ) → KernelFrame (memory l content) 3 f → (f ≡ 3) ⊎ (f ≡ l.table)
-    unfolding flag
-    held_1 = its_kernel (memory l content) 3 l.table l.code l.mailbox 0xDB 0xD3 (second_root h.enough) second_table (omega arith) (omega arith) refl refl
-
-    pub leads_second_16 : l.code < 256 → Leads (memory l content) 3 16 (record { frame = l.code; readable = true; writable = false; executable = true })
-    unfolding flag
-    leads_second_16 below = leads_16 (memory l content) 3 l.table l.code l.mailbox 0xDB 0xD3 (second_root h.enough) second_table (omega arith) (omega arith) refl refl
-        (there 3 (omega arith) (omega (arith, h.enough))) (there l.table h.below h.table.2) _ (runs_leaf l.code) below
-
-    pub leads_second_17 : Leads (memory l content) 3 17 (record { frame = l.mailbox; readable = true; writable = false; executable = false })
-    unfolding flag
-    leads_second_17 = leads_17 (memory l content) 3 l.table l.code l.mailbox 0xDB 0xD3 (second_root h.enough) second_table (omega arith) (omega arith) refl refl
-        (there 3 (omega arith) (omega (arith, h.enough))) (there l.table h.below h.table.2) _ (reads_leaf l.mailbox) h.mailbox
-
-    pub formed : l.code < 256 → (k : ℕ) → k < (plan_of two).counts.partitions → Formed (memory l content) (root (plan_of two) k)
-    unfolding flag plan_of rows
-    formed c zero g = formed_0 h.enough
-    formed c (suc zero) g = its_form (memory l content) 3 l.table l.code l.mailbox 0xDB 0xD3 (second_root h.enough) second_table (omega arith) (omega arith) refl refl
-        (lent_at 3 (omega (arith, h.enough))) (there l.table h.below h.table.2) c h.mailbox
-    formed c (suc (suc k)) g = absurd (omega arith)
-
-    pub roots : l.frames ≤ 256 → (k : ℕ) → k < (plan_of two).counts.partitions → RootFits (memory l content) (plan_of two) k
-    unfolding plan_of rows
-    roots few zero g = record { few = omega (arith, long, few); below = omega arith; own = λ j b e. omega arith }
-    roots few (suc zero) g = record { few = omega (arith, long, few); below = omega arith; own = own_root }
-    roots few (suc (suc k)) g = absurd (omega arith)
+    pub formed : {p : Plan} → Rooted p 3 → l.code < 256 → (k : ℕ) → k < p.counts.partitions → Formed (memory l content) (root p k)
+    formed is code = each_root is (Formed (memory l content)) (its_form (mapped_0 h.enough) (omega arith) (omega arith)) (its_form mapped_1 code h.mailbox)
 
     pub joins : Joins (memory l content) (plan_of two) 0 (record { sender = 6; receiver = l.mailbox })
     unfolding plan_of rows
-    joins = record {
-      sender = record { leaf = _; leads = leads_first_17 h.enough; readable = refl; not_writable = λ e. absurd (true≢false (sym e)); frame_is = refl };
-      receiver = record { leaf = _; leads = leads_second_17; readable = refl; not_writable = λ e. refl; frame_is = refl };
-    }
+    joins = record { sender = sends (leads_17 (mapped_0 h.enough) (omega arith)) refl; receiver = receives (leads_17 mapped_1 h.mailbox) refl refl }
 
     pub pages : (k : ℕ) → k < (plan_of two).counts.channels → PagesFit (memory l content) (plan_of two) k
-    unfolding plan_of rows
-    pages zero g = record { ends = record { sender = 6; receiver = l.mailbox }; joins = joins; alone = λ j b. absurd (omega arith) }
-    pages (suc k) g = absurd (omega arith)
+    unfolding plan_of
+    pages = at_0 (PagesFit (memory l content) (plan_of two)) (first_fits joins)

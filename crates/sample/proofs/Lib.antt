@@ -5,6 +5,5 @@ pub mod Laid
 pub mod Verdicts
 pub mod Asked
 pub mod Refused
-pub mod Unjoined
 pub mod Pair
 pub mod OwnRules

@@ -5,7 +5,8 @@ use Rattle.words.specs.Frames.{word}
 use Rattle.paging.specs.Tables.{KernelFrame, Names}
 use Rattle.sample.specs.Memory.{Layout, memory, word_in}
 use Rattle.sample.specs.Verdicts.{Agrees, Differs, Fits, here, there}
-use Rattle.sample.proofs.Laid.{held_0, named_0, word_at}
+use Rattle.sample.proofs.Laid.{mapped_0, word_at}
+use Rattle.sample.proofs.Tables.{its_frames, its_kernel}
 use Rattle.sample.proofs.Verdicts.{here_fits, there_fits}
 
 module _ (l m : Layout) (h : Fits l) (g : Fits m) (content other : ℕ → ℕ → ℕ) (code : (k : ℕ) → other 2 k ≡ content 2 k) («data» : (k : ℕ) → other 6 k ≡ content 6 k) where
@@ -24,11 +25,11 @@ module _ (l m : Layout) (h : Fits l) (g : Fits m) (content other : ℕ → ℕ �
   data_same k = rw (ne_eqb 6 m.table (λ e. g.table.1 (sym e)), ne_eqb 6 l.table (λ e. h.table.1 (sym e))) («data» k)
 
   agree : (f : ℕ) → KernelFrame (memory l content) 0 f ⊎ Names (memory l content) 0 f → Same f
-  agree f (inl kernel) = elim (held_0 l content h.enough f kernel) [
+  agree f (inl kernel) = elim (its_kernel (mapped_0 l content h.enough) f kernel) [
     | inl e ↦ subst Same (sym e) (both 0 (omega arith) (λ k. refl))
     | inr e ↦ subst Same (sym e) (both 1 (omega arith) (λ k. refl))
   ]
-  agree f (inr named) = elim (named_0 l content h.enough f named) [
+  agree f (inr named) = elim (its_frames (mapped_0 l content h.enough) f named) [
     | inl e ↦ subst Same (sym e) (both 2 (omega arith) code_same)
     | inr e ↦ subst Same (sym e) (both 6 (omega arith) data_same)
   ]

@@ -1,24 +1,21 @@
 -- The sample is accepted in every layout that fits.
-use Rattle.std.proofs.Common.{◌≡◌, ℕ, zero, suc, ◌<◌, ◌≢◌, ◌⊎◌, get_or, sym, refl, ◌∙◌, inl, inr, arith}
+use Rattle.std.proofs.Common.{◌≡◌, ℕ, zero, suc, ◌<◌, ◌≢◌, ◌⊎◌, get_or, refl, ◌∙◌, inl, inr, arith}
 use Rattle.words.specs.First.{first, most}
+use Rattle.paging.specs.Tables.{KernelFrame, Names}
+use Rattle.plan.specs.declared.model.Plan.{Plan}
 use Rattle.plan.specs.Format.{plan_of, rows}
-use Rattle.plan.specs.Switch.{messages, required_budget}
+use Rattle.plan.specs.Switch.{messages}
+use Rattle.plan.proofs.Decides.{kept_lawful}
 use Rattle.plan.proofs.Rows.{rows_at}
 use Rattle.checker.specs.Checked.{accepted}
-use Rattle.checker.specs.Found.{Lawful}
-use Rattle.checker.specs.Lawful.{AllLent, Conflict}
+use Rattle.checker.specs.Lawful.{AllLent, Apart, Conflict, root}
 use Rattle.checker.specs.Pages.{ends_or_none, no_ends}
 use Rattle.checker.proofs.Joined as joined
 use Rattle.checker.proofs.Judged.{lawful_accepted}
 use Rattle.sample.specs.Memory.{Layout, memory, two}
 use Rattle.sample.specs.Verdicts.{Accepts, Examples, Fits, Stands, here, there}
-use Rattle.sample.proofs.Laid.{Tabled, formed, held_0, held_1, joins, lent_at, named_0, named_1, pages, plan_lawful, roots}
-
-pub differ : (x y u v f : ℕ) → (f ≡ x) ⊎ (f ≡ y) → (f ≡ u) ⊎ (f ≡ v) → x ≢ u → x ≢ v → y ≢ u → y ≢ v → ⊥
-differ x y u v f (inl a) (inl b) xu xv yu yv = xu (sym a ∙ b)
-differ x y u v f (inl a) (inr b) xu xv yu yv = xv (sym a ∙ b)
-differ x y u v f (inr a) (inl b) xu xv yu yv = yu (sym a ∙ b)
-differ x y u v f (inr a) (inr b) xu xv yu yv = yv (sym a ∙ b)
+use Rattle.sample.proofs.Laid.{Rooted, Tabled, formed, joins, lent_at, mapped_0, mapped_1, pages, roots, two_rooted}
+use Rattle.sample.proofs.Tables.{its_frames, its_kernel}
 
 -- the second partition's pages are in no frame of the first, nor in a root or a table; they need not be lent
 pub record Spread (l : Layout) : Type 0 where
@@ -28,61 +25,60 @@ pub record Spread (l : Layout) : Type 0 where
   pub code_apart : l.code ≢ l.table
   pub mailbox_apart : l.mailbox ≢ l.table
 
-module _ (l : Layout) (content : ℕ → ℕ → ℕ) (h : Spread l) where
-  pub none_shared : (a b : ℕ) → a < (plan_of two).counts.partitions → b < (plan_of two).counts.partitions → Conflict (memory l content) (plan_of two) a b → ⊥
-  unfolding plan_of rows
-  none_shared zero zero la lb (f, n, inl m) = m.0 refl
-  none_shared zero zero la lb (f, n, inr k) = differ 2 6 0 1 f (named_0 l content h.tabled.enough f n) (held_0 l content h.tabled.enough f k) (λ e. omega arith) (λ e. omega arith) (λ e. omega arith) (λ e. omega arith)
-  none_shared zero (suc zero) la lb (f, n, inl m) = differ 2 6 l.code l.mailbox f (named_0 l content h.tabled.enough f n) (named_1 l content h.tabled f m.1)
-      (λ e. omega (arith, h.code.0)) (λ e. omega (arith, h.mailbox.0)) (λ e. h.code.1 (sym e)) (λ e. h.mailbox.1 (sym e))
-  none_shared zero (suc zero) la lb (f, n, inr k) = differ 2 6 3 l.table f (named_0 l content h.tabled.enough f n) (held_1 l content h.tabled f k)
-      (λ e. omega arith) (λ e. omega (arith, h.tabled.table.0)) (λ e. omega arith) (λ e. h.tabled.table.1 (sym e))
-  none_shared (suc zero) zero la lb (f, n, inl m) = differ 2 6 l.code l.mailbox f (named_0 l content h.tabled.enough f m.1) (named_1 l content h.tabled f n)
-      (λ e. omega (arith, h.code.0)) (λ e. omega (arith, h.mailbox.0)) (λ e. h.code.1 (sym e)) (λ e. h.mailbox.1 (sym e))
-  none_shared (suc zero) zero la lb (f, n, inr k) = differ l.code l.mailbox 0 1 f (named_1 l content h.tabled f n) (held_0 l content h.tabled.enough f k)
-      (λ e. omega (arith, h.code.0)) (λ e. omega (arith, h.code.0)) (λ e. omega (arith, h.mailbox.0)) (λ e. omega (arith, h.mailbox.0))
-  none_shared (suc zero) (suc zero) la lb (f, n, inl m) = m.0 refl
-  none_shared (suc zero) (suc zero) la lb (f, n, inr k) = differ l.code l.mailbox 3 l.table f (named_1 l content h.tabled f n) (held_1 l content h.tabled f k)
-      (λ e. omega (arith, h.code.0)) h.code_apart (λ e. omega (arith, h.mailbox.0)) h.mailbox_apart
-  none_shared (suc (suc a)) b la lb c = omega arith
-  none_shared zero (suc (suc b)) la lb c = omega arith
-  none_shared (suc zero) (suc (suc b)) la lb c = omega arith
+module _ (l : Layout) (content : ℕ → ℕ → ℕ) {p : Plan} (is : Rooted p 3) where
+  -- where the frames of a partition are
+  named_at : Tabled l → (k f : ℕ) → k < p.counts.partitions → Names (memory l content) (root p k) f →
+      ((k ≡ 0) × ((f ≡ 2) ⊎ (f ≡ 6))) ⊎ ((k ≡ 1) × ((f ≡ l.code) ⊎ (f ≡ l.mailbox)))
+  named_at h zero f b n = inl (refl, its_frames (mapped_0 l content h.enough) f (rw is.first at n))
+  named_at h (suc zero) f b n = inr (refl, its_frames (mapped_1 l content h) f (rw is.second at n))
+  named_at h (suc (suc k)) f b n = absurd (omega (arith, is.both))
+
+  held_at : Tabled l → (k f : ℕ) → k < p.counts.partitions → KernelFrame (memory l content) (root p k) f → ((k ≡ 0) × ((f ≡ 0) ⊎ (f ≡ 1))) ⊎ ((k ≡ 1) × ((f ≡ 3) ⊎ (f ≡ l.table)))
+  held_at h zero f b n = inl (refl, its_kernel (mapped_0 l content h.enough) f (rw is.first at n))
+  held_at h (suc zero) f b n = inr (refl, its_kernel (mapped_1 l content h) f (rw is.second at n))
+  held_at h (suc (suc k)) f b n = absurd (omega (arith, is.both))
+
+  pub none_shared : Spread l → (a b : ℕ) → a < p.counts.partitions → b < p.counts.partitions → Conflict (memory l content) p a b → ⊥
+  none_shared h a b la lb (f, n, inl m) = let x = named_at h.tabled a f la n in let y = named_at h.tabled b f lb m.1 in let z = m.0 in grind arith
+  none_shared h a b la lb (f, n, inr k) = let x = named_at h.tabled a f la n in let y = held_at h.tabled b f lb k in grind arith
+
+  pub all_apart : Spread l → (k : ℕ) → k < p.counts.partitions → Apart (memory l content) p k
+  all_apart h k b j le (inl c) = none_shared h k j b (omega arith) c
+  all_apart h k b j le (inr c) = none_shared h j k (omega arith) b c
+
+pub tabled : (l : Layout) → Fits l → Tabled l
+tabled l h = grind arith
+
+pub spread : (l : Layout) → Fits l → Spread l
+spread l h = record { tabled = tabled l h; code = (h.code.0, h.code.1); mailbox = (h.mailbox.0, h.mailbox.1); code_apart = h.code_apart; mailbox_apart = h.mailbox_apart }
+
+pub all_lent : (l : Layout) (content : ℕ → ℕ → ℕ) {p : Plan} → Rooted p 3 → Fits l → AllLent (memory l content) p
+all_lent l content is h k f b n = let x = named_at l content is (tabled l h) k f b n in lent_at l content f (grind arith)
 
 pub channels_1 : (plan_of two).counts.channels ≡ 1
 unfolding plan_of
 channels_1 = refl
 
 module _ (l : Layout) (content : ℕ → ℕ → ℕ) (h : Fits l) where
-  pub tabled : Tabled l
-  tabled = record { enough = h.enough; table = h.table; below = omega (arith, h.table.2, h.few); mailbox = omega (arith, h.mailbox.2, h.few) }
-
-  pub spread : Spread l
-  spread = record { tabled = tabled; code = (h.code.0, h.code.1); mailbox = (h.mailbox.0, h.mailbox.1); code_apart = h.code_apart; mailbox_apart = h.mailbox_apart }
-
-  pub all_lent : AllLent (memory l content) (plan_of two)
-  unfolding plan_of rows
-  all_lent zero f g n = elim (named_0 l content h.enough f n) [ inl e ↦ lent_at l content f (omega (arith, h.enough)) | inr e ↦ lent_at l content f (omega (arith, h.enough)) ]
-  all_lent (suc zero) f g n = elim (named_1 l content tabled f n) [ inl e ↦ lent_at l content f (omega (arith, h.code.2)) | inr e ↦ lent_at l content f (omega (arith, h.mailbox.2)) ]
-  all_lent (suc (suc k)) f g n = absurd (omega arith)
-
-  lawful : Lawful two (memory l content)
-  lawful = record {
-    plan = plan_lawful;
-    pages = pages l content tabled;
-    roots = roots l content tabled h.few;
-    tables = formed l content tabled (omega (arith, h.code.2, h.few));
-    apart = none_shared l content spread;
-    all_lent = all_lent;
-  }
-
   ends : get_or (accepted (memory l content) (plan_of two)).ends 0 no_ends ≡ record { sender = 6; receiver = l.mailbox }
   unfolding plan_of
   ends =
       rows_at (ends_or_none (memory l content) (plan_of two)) no_ends 16 (plan_of two).counts.channels 0 (omega arith)
-      ∙ (rw channels_1 (joined.ends_kept (memory l content) (plan_of two) 0 (record { sender = 6; receiver = l.mailbox }) (joins l content tabled)))
+      ∙ (rw channels_1 (joined.ends_kept (memory l content) (plan_of two) 0 (record { sender = 6; receiver = l.mailbox }) (joins l content (tabled l h))))
 
   stands : Stands l content
-  stands = record { verdict = lawful_accepted two (memory l content) lawful; joined = ends }
+  unfolding first most messages plan_of rows
+  stands = record {
+    verdict = lawful_accepted two (memory l content) (record {
+      plan = kept_lawful two refl refl refl refl refl refl refl;
+      pages = pages l content (tabled l h);
+      roots = roots l content two_rooted (omega arith) (omega arith) h.few;
+      tables = formed l content (tabled l h) two_rooted (omega (arith, h.code.2, h.few));
+      apart = none_shared l content two_rooted (spread l h);
+      all_lent = all_lent l content two_rooted h;
+    });
+    joined = ends;
+  }
 
 pub accepts : Accepts
 accepts l h content = stands l content h
@@ -93,9 +89,6 @@ here_fits = grind arith
 pub there_fits : Fits there
 there_fits = grind arith
 
-pub budget : required_budget (plan_of two) ≡ 1754
-unfolding first most messages plan_of rows
-budget = refl
-
 pub examples : Examples
-examples = record { budget = budget; one = accepts here here_fits; other = accepts there there_fits }
+unfolding first most messages plan_of rows
+examples = record { budget = refl; one = accepts here here_fits; other = accepts there there_fits }

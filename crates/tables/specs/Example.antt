@@ -1,5 +1,5 @@
 -- A store and two loads, worked by the tables alone: what the look-up and the access of an instruction add up to. The whole step of a program is the core's.
-use Rattle.std.specs.Prelude.{◌≡◌, ℕ, ◌+◌, ◌/◌, Bool, true, false, List, unwrap_or}
+use Rattle.std.specs.Prelude.{◌≡◌, ℕ, ◌+◌, ◌/◌, List, unwrap_or}
 use Rattle.costs.specs.Costs.{instruction, miss, page_walk, write_back}
 use Rattle.costs.specs.Cycles.{cycles, plain}
 use Rattle.paging.specs.declared.access.Access.{Access}

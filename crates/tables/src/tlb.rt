@@ -1,9 +1,9 @@
 // The TLB: the leaves of pages that were walked before.
-ghost use Rattle.std.specs.Prelude.{◌≡◌, None, false, option_map};
+ghost use Rattle.std.specs.Prelude.{◌≡◌, None, Some, option_map};
 ghost use Rattle.std.specs.Option.{ForSome};
 ghost use Rattle.paging.specs.Walks.{walked};
 ghost use Rattle.tables.specs.Honest.{Honest, Truthful};
-ghost use Rattle.tables.specs.Tlb.{empty_tlb, filled, found, granted, hit, put, reply};
+ghost use Rattle.tables.specs.Tlb.{empty_tlb, filled, found, granted, hit, put};
 
 use paging::access::Access;
 use paging::leaf::Leaf;
@@ -32,18 +32,13 @@ pub struct Lookup {
     pub walked: bool,
 }
 
-impl Lookup {
-    // A page that is known and does not permit the access. Out of line: in place, a hit would make both answers and choose.
-    #[cold]
-    #[inline(never)]
-    fn fault() -> Self
-        ensures { result ≡ reply false None }
-    {
-        Lookup {
-            frame: None,
-            walked: false,
-        }
-    }
+// The frame of a leaf for an access that it permits. Out of line, for the access that it does not: in place, a hit would make both answers and choose.
+#[cold]
+#[inline(never)]
+fn frame_for(leaf: Leaf, access: Access) -> Option<u32>
+    ensures { result ≡ option_map (λ l. l.frame) (granted access (Some leaf)) }
+{
+    leaf.permits(access).then_some(leaf.frame)
 }
 
 impl Tlb {
@@ -70,7 +65,10 @@ impl Tlb {
                 frame: Some(entry.leaf.frame),
                 walked: false,
             },
-            Some(entry) if entry.page == page => Lookup::fault(),
+            Some(entry) if entry.page == page => Lookup {
+                frame: frame_for(entry.leaf, access),
+                walked: false,
+            },
             _ => Lookup {
                 frame: self.walk_for(words, root, page, access),
                 walked: true,
@@ -79,6 +77,7 @@ impl Tlb {
     }
 
     // A page that no entry has: its frame after a walk.
+    #[cold]
     #[inline(never)]
     fn walk_for(&mut self, words: &[u32], root: u32, page: u32, access: Access) -> Option<u32>
         ensures frame { result ≡ option_map (λ l. l.frame) (granted access (walked words.now root page)) }

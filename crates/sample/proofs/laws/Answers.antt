@@ -1,7 +1,7 @@
 -- What is left to show of `laws`.
 use Rattle.sample.proofs.OwnRules.{own_rules}
 use Rattle.sample.proofs.Pair.{agrees, differs}
-use Rattle.sample.proofs.Unjoined.{refuses}
+use Rattle.sample.proofs.Refused.{refuses}
 use Rattle.sample.proofs.Verdicts.{accepts, examples}
 use Rattle.sample.proofs.laws.Goals as goal
 

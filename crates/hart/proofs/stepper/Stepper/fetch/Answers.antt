@@ -1,12 +1,12 @@
 -- What is left to show of `fetch`: a page that the TLB has needs no look-up. It would find the same frame and leave the core as it is.
-use Rattle.std.proofs.Common.{◌≡◌, ℕ, ◌/◌, List, Some, None, sym, ap}
+use Rattle.std.proofs.Common.{◌≡◌, ℕ, ◌/◌, List, Some, None, sym, ap, ◌∙◌}
 use Rattle.paging.specs.declared.access.Access.TheVariants.{Fetch}
 use Rattle.paging.specs.Walks.{walked}
 use Rattle.tables.specs.Tlb.{found, hit}
 use Rattle.tables.proofs.Truth.{known_hit}
 use Rattle.hart.specs.declared.step.Core.{Core}
 use Rattle.hart.specs.Core.{looked_up}
-use Rattle.hart.specs.Scaffold.{faulted}
+use Rattle.hart.specs.Scaffold.{faulted, opened}
 use Rattle.hart.proofs.stepper.Stepper.fetch.Goals as goal
 
 at_hand_found : (core : Core) (ws : List ℕ) (page frame : ℕ) → page ≡ core.context.pc / 4096 → found core.tables.tlb page Fetch None ≡ hit frame →
@@ -17,8 +17,8 @@ at_hand_found core ws page frame e h =
 
 pub returns-in-Some-clause-found : goal.returns-in-Some-clause-found
 returns-in-Some-clause-found c =
-    (at_hand_found c.args.self.now.core c.args.words.now c.in-Some.window.page c.in-Some.window.frame c.if-window-page.true (c.args.self.now.at_hand c.in-Some.window c.in-Some.is)).0
+    c.by.ensures ∙ ap opened (at_hand_found c.args.self.now.core c.args.words.now c.in-Some.window.page c.in-Some.window.frame c.if-window-page.true (c.args.self.now.at_hand c.in-Some.window c.in-Some.is)).0
 
 pub returns-in-Some-clause-core : goal.returns-in-Some-clause-core
 returns-in-Some-clause-core c =
-    (at_hand_found c.args.self.now.core c.args.words.now c.in-Some.window.page c.in-Some.window.frame c.if-window-page.true (c.args.self.now.at_hand c.in-Some.window c.in-Some.is)).1
+    rw (c.by.ensures) (at_hand_found c.args.self.now.core c.args.words.now c.in-Some.window.page c.in-Some.window.frame c.if-window-page.true (c.args.self.now.at_hand c.in-Some.window c.in-Some.is)).1
