@@ -4,6 +4,7 @@ ghost use Rattle.separation.specs.Each.{Confinement, Execution, LoadsAlike, Mess
 ghost use Rattle.separation.specs.Promises.{KeepsPromises};
 
 // Every slot begins at the clock that the plan alone gives.
+#[tactic(auto, using(crate::proofs::Each::on_time))]
 pub fn slots_on_time()
     ensures { OnTime }
 {}
@@ -14,6 +15,7 @@ pub fn switches()
 {}
 
 // At a switch each receiver's page equals its sender's as it stood, and no other word changes.
+#[tactic(auto, using(crate::proofs::Each::messages_arrive))]
 pub fn messages()
     ensures { MessagesArrive }
 {}
@@ -30,16 +32,19 @@ pub fn execution()
 
 // At all times of a slot every TLB entry is what a walk would answer, every page leads to a frame that the tables named when the
 // slot began, and no word changed but in such frames.
+#[tactic(auto, using(crate::proofs::Each::true_translation))]
 pub fn translation()
     ensures { TrueTranslation }
 {}
 
 // A program that stays ready runs at least as many instructions as the highest cost fits into its slot.
+#[tactic(auto, using(crate::proofs::Each::progresses))]
 pub fn progress()
     ensures { Progresses }
 {}
 
 // A plan that was accepted stays so.
+#[tactic(auto, using(crate::proofs::Each::stays_accepted))]
 pub fn acceptance()
     ensures { StaysAccepted }
 {}
