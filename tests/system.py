@@ -1,4 +1,4 @@
-"""What the tests of whole systems share: the programs that were built, what budget is ample, and a system's two files."""
+"""What the tests of whole systems share: the programs that were built, the budget that is required, and a system's two files."""
 import os
 import sys
 
@@ -9,7 +9,7 @@ CRATES = os.path.join(HERE, "..", "crates")
 RUN = os.path.join(CRATES, "run", "out", "run")
 CHECK = os.path.join(CRATES, "plan_check", "out", "plan_check")
 # what the last instruction of a slot can overshoot and the write-backs of all lines take; and what each message takes
-AMPLE = 90 + 64 * 10
+REQUIRED = 90 + 64 * 10
 MESSAGE = 1024
 
 

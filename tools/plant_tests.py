@@ -24,7 +24,7 @@ sys.dont_write_bytecode = True
 from plant import ROOT, asked_for, options_of  # noqa: E402
 
 PROGRAMS = ["run", "plan_check", "conformance", "speed"]
-SCRIPTS = ["programs", "canal", "cases", "refusals"]
+SCRIPTS = ["programs", "lock", "cases", "refusals"]
 # in bytes, as large as the largest file that the scripts make
 LARGEST = 8 << 30
 NOT_COMPILED, REFUSED, FOUND, PASSED = "did not compile", "refused by the prover", "found by a test", "passed"

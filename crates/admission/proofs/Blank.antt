@@ -7,7 +7,7 @@ use Rattle.std.proofs.lemmas.List.{get_or_past, get_or-append_right, get_or-repl
 use Rattle.std.proofs.lemmas.List.FromFn.{get_or-map-range_with_len, length-map-range_with_len}
 use Rattle.words.specs.Frames.{word}
 use Rattle.paging.specs.Entries.{flag, is_valid}
-use Rattle.paging.specs.Tables.{Names}
+use Rattle.paging.specs.Tables.{References}
 use Rattle.plan.specs.Example.{example}
 use Rattle.plan.specs.declared.refusal.Refusal.TheVariants.{FramesMissing, Surplus}
 use Rattle.plan.specs.Format.{plan_of, rows}
@@ -89,7 +89,7 @@ module _ (image : List ℕ) (is : Blank image) where
   unfolding flag
   not_valid frame k v = true≢false (sym v ∙ ap is_valid (zero_at (frame * 1024 + k)))
 
-  names_none : (at f : ℕ) → Names (image_words image) at f → ⊥
+  names_none : (at f : ℕ) → References (image_words image) at f → ⊥
   names_none at f n = not_valid n.table n.at n.valid
 
   formed : (at : ℕ) → at < 2 → Formed (image_words image) at

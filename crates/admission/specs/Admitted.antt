@@ -1,7 +1,7 @@
 -- The verdict on a plan, the words lent to it, and the image that they were loaded from.
 use Rattle.std.specs.Prelude.{◌≡◌, ℕ, ◌<◌, ◌≤◌, ◌⊎◌, List, take, Ok, Err, Option, Result, MatchResult}
 use Rattle.words.specs.Bytes.{byte}
-use Rattle.words.specs.First.{unless}
+use Rattle.ranges.specs.Questions.{unless}
 use Rattle.plan.specs.declared.refusal.Refusal.{Refusal}
 use Rattle.plan.specs.Format.{longest, plan_of}
 use Rattle.checker.specs.declared.Accepted.{Accepted}

@@ -1,7 +1,7 @@
 // Rows of uses of the three tables, with what each has to do or to cost.
 use costs::used::{CacheUse, Used};
 use paging::access::Access;
-use paging::place::Place;
+use paging::physical::PhysicalAddress;
 use rv32ui::memory::{add_page, lay_out};
 use tables::Tables;
 use tables::cache::Cache;
@@ -40,7 +40,10 @@ fn loads_and_stores(rt: HostRuntime) {
     ];
     let mut cache = Cache::new();
     for (frame, offset, store, cost, dirty) in row {
-        assert_eq!(rt; cycles(cache.access(Place { frame, offset }, store)), cost);
+        assert_eq!(rt;
+            cycles(cache.access(PhysicalAddress { frame, offset }, store)),
+            cost
+        );
         assert_eq!(rt; cache.dirty_lines(), dirty);
     }
 }
@@ -60,7 +63,7 @@ fn every_line_dirty(rt: HostRuntime) {
         for line in 0..64 {
             assert_eq!(rt;
                 cycles(cache.access(
-                    Place {
+                    PhysicalAddress {
                         frame,
                         offset: line * 64 + 60,
                     },
@@ -160,7 +163,7 @@ fn reset(rt: HostRuntime) {
         assert_eq!(rt;
             cycles(
                 tables.cache.access(
-                    Place {
+                    PhysicalAddress {
                         frame: 2,
                         offset: 0,
                     },

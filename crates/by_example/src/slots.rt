@@ -1,7 +1,7 @@
 // Examples: a slot with its switch, the edges of what can be run, and messages. tests/cases runs whole plans.
 use crate::layout::lay_out_code;
 use checker::Accepted;
-use checker::pages::Ends;
+use checker::pages::ChannelFrames;
 use hart::cause::Cause;
 use hart::context::State;
 use hart::step::Core;
@@ -45,7 +45,7 @@ fn accepted(partition: u8) -> Accepted {
     };
     Accepted {
         plan,
-        ends: [Ends {
+        frames: [ChannelFrames {
             sender: 3,
             receiver: 4,
         }; MOST_CHANNELS],

@@ -60,8 +60,8 @@ fn memory(heap: Global, layout: Layout, frames: usize) -> Result<Vec<u32>, Alloc
 fn verdict(plan: &[u8], words: &[u32]) -> Result<u32, (u8, usize)> {
     match check(plan, words) {
         Ok(accepted) => {
-            let [ends, ..] = accepted.ends;
-            Ok(ends.receiver)
+            let [frames, ..] = accepted.frames;
+            Ok(frames.receiver)
         }
         Err(refusal) => Err((refusal.number(), refusal.place())),
     }

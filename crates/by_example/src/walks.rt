@@ -1,7 +1,7 @@
 // Walks with every bit of an entry. Frame 0 is the root, frame 1 the table that its first entry points to, and entry 16 there the leaf of page 16.
 use paging::access::Access;
 use paging::leaf::Leaf;
-use paging::place::PAGE_BYTES;
+use paging::physical::PAGE_BYTES;
 use paging::walk::walk;
 use rv32ui::memory::{TO_FRAME_1, add_page};
 use std::test::Fail;

@@ -3,7 +3,7 @@ use Rattle.std.proofs.Common.{◌≡◌, ℕ, List, sym, refl, ap, ◌∙◌, su
 use Rattle.plan.specs.declared.refusal.Refusal.{Refusal}
 use Rattle.plan.specs.declared.refusal.Refusal.TheVariants.{ChannelPage, TableMalformed}
 use Rattle.plan.specs.Refused.{number_of, place_of, refusal}
-use Rattle.plan.proofs.Decides.{at_number, named, same_number}
+use Rattle.plan.proofs.Decides.{at_number, refusal_named, same_number}
 use Rattle.checker.specs.Found.{Finding, Found, OneFirst, found_at, refusal_of, rule_of}
 use Rattle.checker.specs.Found.Finding.{broken, pages_unread, tables_unread}
 use Rattle.checker.proofs.Judged.{ranked}
@@ -23,7 +23,7 @@ module _ (bytes words : List ℕ) where
       z.1 u.1
 
   alike : (a b : Finding) → Found bytes words a → Found bytes words b → rule_of a ≡ rule_of b → found_at a ≡ found_at b → refusal_of a ≡ refusal_of b
-  alike (broken e) (broken d) x y r s = named e ∙ ap (λ n. refusal n (place_of e)) r ∙ ap (refusal (number_of d)) s ∙ sym (named d)
+  alike (broken e) (broken d) x y r s = refusal_named e ∙ ap (λ n. refusal n (place_of e)) r ∙ ap (refusal (number_of d)) s ∙ sym (refusal_named d)
   alike (broken e) (pages_unread k) x y r s = absurd (not_pages e k x y r s)
   alike (broken e) (tables_unread k) x y r s = absurd (not_tables e k x y r s)
   alike (pages_unread k) (broken d) x y r s = absurd (not_pages d k y x (sym r) (sym s))

@@ -3,8 +3,8 @@
 use Rattle.std.proofs.Common.{◌≡◌, ℕ, suc, ◌<◌, ◌≤◌, Bool, true, false, List, [], ◌∷◌, length, Some, None, Decides, Option, sym, refl, ◌∙◌, subst, inl, inr, arith}
 use Rattle.std.proofs.lemmas.Bool.{both_ways, cases_eq, cases_lt, eq-eqb, ne_eqb}
 use Rattle.std.specs.Option.{option_or}
-use Rattle.words.specs.First.{first}
-use Rattle.words.proofs.First.{first_is, none_below, or_none, or_some}
+use Rattle.ranges.specs.Questions.{first}
+use Rattle.ranges.proofs.Questions.{first_is, none_below, or_none, or_some}
 use Rattle.plan.specs.declared.refusal.Refusal.{Refusal}
 use Rattle.plan.specs.Refused.{index_in}
 use Rattle.plan.specs.Rules.{broken_unless}

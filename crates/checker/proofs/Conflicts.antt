@@ -1,16 +1,16 @@
 -- The marks of partitions tell their conflicts.
 use Rattle.std.proofs.Common.{◌≡◌, ℕ, ◌<◌, ◌≤◌, Bool, true, not, eqb, ◌⊎◌, List, Decides, sym, refl, ap, ◌∙◌, subst, inl, inr, arith}
 use Rattle.std.proofs.lemmas.Bool.{and_from, and_parts, cases_Bool, cases_lt, eq-eqb, eqb-true, or_cases, or_left, or_right, true≢false, not-true}
-use Rattle.words.specs.First.{any}
+use Rattle.ranges.specs.Questions.{any}
 use Rattle.words.specs.Frames.{lent, word}
-use Rattle.words.proofs.First.{all_not, any_here, any_where}
+use Rattle.ranges.proofs.Questions.{all_not, any_here, any_where}
 use Rattle.paging.specs.Entries.{frame_of, is_pointer, is_valid}
 use Rattle.paging.specs.Mapping.{Pointer}
-use Rattle.paging.specs.Tables.{KernelFrame, Names, PointsTo}
+use Rattle.paging.specs.Tables.{PageTableFrame, References, PointsTo}
 use Rattle.paging.proofs.Tell.{pointer_tells}
 use Rattle.plan.specs.declared.model.Plan.{Plan}
-use Rattle.checker.specs.Marks.{kernel_test, names, named_by, named_entry, names_in, pointed, points}
-use Rattle.checker.specs.Sharing.{apart_kept, clash, clash_at, kernel_at, lent_kept, missing_at, named_at}
+use Rattle.checker.specs.Marks.{is_page_table_frame, references, referenced_by, referencing_entry, references_in, pointed, points}
+use Rattle.checker.specs.Sharing.{apart_kept, clash, clash_at, page_tables_at, lent_kept, missing_at, referenced_at}
 use Rattle.checker.specs.Lawful.{AllLent, Apart, Conflict, Formed, root}
 use Rattle.checker.proofs.Forms.{lent_tells}
 
@@ -30,44 +30,44 @@ module _ (ws : List ℕ) (r : ℕ) where
       any_here (points ws r t) 1024 h.at h.within
       (and_from (is_pointer entry) (eqb (frame_of entry) t) ((pointer_tells entry).1 (subst (Pointer entry) (sym h.points.frame) h.points)) (eq-eqb (frame_of entry) t h.points.frame))
 
-  names_true : (f : ℕ) → names ws r f ≡ true → Names ws r f
-  unfolding names names_in
+  names_true : (f : ℕ) → references ws r f ≡ true → References ws r f
+  unfolding references references_in
   names_true f e =
-      let x = any_where (named_by ws r f) 256 e in
+      let x = any_where (referenced_by ws r f) 256 e in
       let t = x.0 in
-      let y = and_parts (pointed ws r t) (names_in ws t f) x.2 in
-      let z = any_where (named_entry ws t f) 1024 y.1 in
+      let y = and_parts (pointed ws r t) (references_in ws t f) x.2 in
+      let z = any_where (referencing_entry ws t f) 1024 y.1 in
       let v = and_parts (is_valid (word ws t z.0)) (eqb (frame_of (word ws t z.0)) f) z.2 in
-      record { table = t; by = pointed_to t y.0; at = z.0; within = z.1; valid = v.0; names = eqb-true (frame_of (word ws t z.0)) f v.1 }
+      record { table = t; by = pointed_to t y.0; at = z.0; within = z.1; valid = v.0; references = eqb-true (frame_of (word ws t z.0)) f v.1 }
 
-  kernel_true : (f : ℕ) → kernel_test ws r f ≡ true → KernelFrame ws r f
-  unfolding kernel_test
+  kernel_true : (f : ℕ) → is_page_table_frame ws r f ≡ true → PageTableFrame ws r f
+  unfolding is_page_table_frame
   kernel_true f e = elim (or_cases (pointed ws r f) (eqb r f) e) [ inl h ↦ inr (pointed_to f h) | inr h ↦ inl (sym (eqb-true r f h)) ]
 
-  true_kernel : (f : ℕ) → KernelFrame ws r f → kernel_test ws r f ≡ true
-  unfolding kernel_test
+  true_kernel : (f : ℕ) → PageTableFrame ws r f → is_page_table_frame ws r f ≡ true
+  unfolding is_page_table_frame
   true_kernel f k = elim k [ inl e ↦ or_right (pointed ws r f) (eqb r f) (eq-eqb r f (sym e)) | inr h ↦ or_left (pointed ws r f) (eqb r f) (to_pointed f h) ]
 
   module _ (ok : Formed ws r) where
     table_below : (t : ℕ) → PointsTo ws r t → t < 256
     table_below t h = subst (λ x. x < 256) h.points.frame ((ok.entries h.at h.within).there h.points.valid).below
 
-    -- a frame that is named is one of the 256
-    pub named_below : (f : ℕ) → Names ws r f → f < 256
+    -- a frame that is referenced is one of the 256
+    pub named_below : (f : ℕ) → References ws r f → f < 256
     named_below f n =
         let by = n.by in
         let entry = word ws r by.at in
         let formed = (ok.entries by.at by.within).formed by.points.valid in
         let leaf = subst (λ t. (k : ℕ) → k < 1024 → is_valid (word ws t k) ≡ true → frame_of (word ws t k) < 256) by.points.frame (λ k l v. (formed k l v).1) n.at n.within n.valid in
-        subst (λ x. x < 256) n.names leaf
+        subst (λ x. x < 256) n.references leaf
 
-    true_names : (f : ℕ) → Names ws r f → names ws r f ≡ true
-    unfolding names names_in
+    true_names : (f : ℕ) → References ws r f → references ws r f ≡ true
+    unfolding references references_in
     true_names f n =
         let t = n.table in
-        any_here (named_by ws r f) 256 t (table_below t n.by)
-        (and_from (pointed ws r t) (any (named_entry ws t f) 1024) (to_pointed t n.by)
-        (any_here (named_entry ws t f) 1024 n.at n.within (and_from (is_valid (word ws t n.at)) (eqb (frame_of (word ws t n.at)) f) n.valid (eq-eqb (frame_of (word ws t n.at)) f n.names))))
+        any_here (referenced_by ws r f) 256 t (table_below t n.by)
+        (and_from (pointed ws r t) (any (referencing_entry ws t f) 1024) (to_pointed t n.by)
+        (any_here (referencing_entry ws t f) 1024 n.at n.within (and_from (is_valid (word ws t n.at)) (eqb (frame_of (word ws t n.at)) f) n.valid (eq-eqb (frame_of (word ws t n.at)) f n.references))))
 
 data Ways (a b c d : Bool) : Type 0 where
   both : a ≡ true → c ≡ true → Ways a b c d
@@ -90,38 +90,38 @@ clashes a b c d (later x y) = grind arith
 Here : List ℕ → Plan → ℕ → ℕ → Type 0
 Here ws p k f =
     (j : ℕ) × (j ≤ k)
-    × ((Names ws (root p k) f × (((k ≡ j → ⊥) × Names ws (root p j) f) ⊎ KernelFrame ws (root p j) f)) ⊎ (Names ws (root p j) f × KernelFrame ws (root p k) f))
+    × ((References ws (root p k) f × (((k ≡ j → ⊥) × References ws (root p j) f) ⊎ PageTableFrame ws (root p j) f)) ⊎ (References ws (root p j) f × PageTableFrame ws (root p k) f))
 
 module _ (ws : List ℕ) (p : Plan) (f : ℕ) where
   module _ (k : ℕ) where
     clash_here : clash_at ws p k f ≡ true → Here ws p k f
-    unfolding clash_at Here named_at kernel_at
+    unfolding clash_at Here referenced_at page_tables_at
     clash_here e = elim (ways _ _ _ _ e) [
-      | both a c ↦ (let z = any_where (named_at ws p f) k c in (z.0, omega (arith, z.1), inl (names_true ws (root p k) f a, inl ((λ s. absurd (omega (arith, z.1))), names_true ws (root p z.0) f z.2))))
-      | table a d ↦ (let z = any_where (kernel_at ws p f) k d in (z.0, omega (arith, z.1), inl (names_true ws (root p k) f a, inr (kernel_true ws (root p z.0) f z.2))))
+      | both a c ↦ (let z = any_where (referenced_at ws p f) k c in (z.0, omega (arith, z.1), inl (names_true ws (root p k) f a, inl ((λ s. absurd (omega (arith, z.1))), names_true ws (root p z.0) f z.2))))
+      | table a d ↦ (let z = any_where (page_tables_at ws p f) k d in (z.0, omega (arith, z.1), inl (names_true ws (root p k) f a, inr (kernel_true ws (root p z.0) f z.2))))
       | own a b ↦ (k, omega arith, inl (names_true ws (root p k) f a, inr (kernel_true ws (root p k) f b)))
-      | later b c ↦ (let z = any_where (named_at ws p f) k c in (z.0, omega (arith, z.1), inr (names_true ws (root p z.0) f z.2, kernel_true ws (root p k) f b)))
+      | later b c ↦ (let z = any_where (referenced_at ws p f) k c in (z.0, omega (arith, z.1), inr (names_true ws (root p z.0) f z.2, kernel_true ws (root p k) f b)))
     ]
 
     here_clash : ((q : ℕ) → q ≤ k → Formed ws (root p q)) → Here ws p k f → clash_at ws p k f ≡ true
-    unfolding clash_at Here named_at kernel_at
+    unfolding clash_at Here referenced_at page_tables_at
     here_clash ok h =
-        let mine : Names ws (root p k) f → named_at ws p f k ≡ true = true_names ws (root p k) (ok k (omega arith)) f in
-        let theirs : Names ws (root p h.0) f → named_at ws p f h.0 ≡ true = true_names ws (root p h.0) (ok h.0 h.1) f in
+        let mine : References ws (root p k) f → referenced_at ws p f k ≡ true = true_names ws (root p k) (ok k (omega arith)) f in
+        let theirs : References ws (root p h.0) f → referenced_at ws p f h.0 ≡ true = true_names ws (root p h.0) (ok h.0 h.1) f in
         clashes _ _ _ _ (elim (cases_lt h.0 k) [
           | inl l ↦ elim h.2 [
             | inl x ↦ elim x.1 [
-              | inl y ↦ both (mine x.0) (any_here (named_at ws p f) k h.0 l (theirs y.1))
-              | inr y ↦ table (mine x.0) (any_here (kernel_at ws p f) k h.0 l (true_kernel ws (root p h.0) f y))
+              | inl y ↦ both (mine x.0) (any_here (referenced_at ws p f) k h.0 l (theirs y.1))
+              | inr y ↦ table (mine x.0) (any_here (page_tables_at ws p f) k h.0 l (true_kernel ws (root p h.0) f y))
             ]
-            | inr x ↦ later (true_kernel ws (root p k) f x.1) (any_here (named_at ws p f) k h.0 l (theirs x.0))
+            | inr x ↦ later (true_kernel ws (root p k) f x.1) (any_here (referenced_at ws p f) k h.0 l (theirs x.0))
           ]
           | inr l ↦ (let s : h.0 ≡ k = omega (arith, h.1) in elim h.2 [
             | inl x ↦ elim x.1 [
               | inl y ↦ absurd (y.0 (sym s))
-              | inr y ↦ own (mine x.0) (subst (λ (q : ℕ). kernel_at ws p f q ≡ true) s (true_kernel ws (root p h.0) f y))
+              | inr y ↦ own (mine x.0) (subst (λ (q : ℕ). page_tables_at ws p f q ≡ true) s (true_kernel ws (root p h.0) f y))
             ]
-            | inr x ↦ own (subst (λ (q : ℕ). named_at ws p f q ≡ true) s (theirs x.0)) (true_kernel ws (root p k) f x.1)
+            | inr x ↦ own (subst (λ (q : ℕ). referenced_at ws p f q ≡ true) s (theirs x.0)) (true_kernel ws (root p k) f x.1)
           ])
         ])
 
@@ -150,18 +150,18 @@ module _ (ws : List ℕ) (p : Plan) where
   )
 
   pub lent_decides : ((q : ℕ) → q < p.counts.partitions → Formed ws (root p q)) → Decides (lent_kept ws p) (AllLent ws p)
-  unfolding lent_kept missing_at named_at
+  unfolding lent_kept missing_at referenced_at
   lent_decides ok = (
     (λ e k f l n. elim (cases_Bool (lent ws f)) [
       | inl y ↦ (lent_tells ws f).0 y
       | inr y ↦ absurd (
-          let some = any_here (named_at ws p f) p.counts.partitions k l (true_names ws (root p k) (ok k l) f n) in
-          let here = any_here (missing_at ws p) 256 f (named_below ws (root p k) (ok k l) f n) (and_from (any (named_at ws p f) p.counts.partitions) (not (lent ws f)) some (ap not y)) in
+          let some = any_here (referenced_at ws p f) p.counts.partitions k l (true_names ws (root p k) (ok k l) f n) in
+          let here = any_here (missing_at ws p) 256 f (named_below ws (root p k) (ok k l) f n) (and_from (any (referenced_at ws p f) p.counts.partitions) (not (lent ws f)) some (ap not y)) in
           true≢false (sym here ∙ not-true (any (missing_at ws p) 256) e))
     ]),
     λ h. rw (all_not (missing_at ws p) 256 (λ f l e.
-        let x = and_parts (any (named_at ws p f) p.counts.partitions) (not (lent ws f)) e in
-        let z = any_where (named_at ws p f) p.counts.partitions x.0 in
+        let x = and_parts (any (referenced_at ws p f) p.counts.partitions) (not (lent ws f)) e in
+        let z = any_where (referenced_at ws p f) p.counts.partitions x.0 in
         let y : lent ws f ≡ true = (lent_tells ws f).1 (h z.0 f z.1 (names_true ws (root p z.0) f z.2)) in
         true≢false (sym x.1 ∙ ap not y))) refl,
   )

@@ -3,9 +3,9 @@ use Rattle.std.proofs.Common.{◌≡◌, ℕ, ◌<◌, Bool, true, false, cond, 
 use Rattle.std.proofs.lemmas.Bool.{cases_Bool, lt-ltb, ltb-true, true≢false}
 use Rattle.std.proofs.lemmas.Bool.Decides.{nat_tests}
 use Rattle.std.specs.Option.{option_or}
-use Rattle.words.specs.First.{first}
+use Rattle.ranges.specs.Questions.{first}
 use Rattle.words.specs.Frames.{lent, word}
-use Rattle.words.proofs.First.{all_not, below_none, first_is, first_stays, none_below, not_any}
+use Rattle.ranges.proofs.Questions.{all_not, below_none, first_is, first_stays, none_below, not_any}
 use Rattle.paging.specs.Entries.{frame_of, is_leaf, is_pointer, is_valid}
 use Rattle.paging.specs.Mapping.{InMemory, Pointer}
 use Rattle.paging.proofs.Tell.{pointer_tells}

@@ -3,11 +3,11 @@ use Rattle.std.proofs.Common.{◌≡◌, ℕ, ◌<◌, Bool, true, false, List, 
 use Rattle.std.proofs.lemmas.Bool.{cases_eq, cases_lt, cond-true, lt-ltb}
 use Rattle.std.proofs.lemmas.Result.{MatchResult-at_ok}
 use Rattle.std.specs.Option.{option_or}
-use Rattle.words.specs.First.{first}
-use Rattle.words.proofs.First.{none_below}
+use Rattle.ranges.specs.Questions.{first}
+use Rattle.ranges.proofs.Questions.{none_below}
 use Rattle.paging.specs.declared.leaf.Leaf.{Leaf}
 use Rattle.paging.specs.Mapping.{Maps}
-use Rattle.paging.specs.Tables.{Names}
+use Rattle.paging.specs.Tables.{References}
 use Rattle.paging.proofs.Agree.{leaves_named}
 use Rattle.plan.specs.declared.model.Endpoint.{Endpoint}
 use Rattle.plan.specs.declared.refusal.Count.TheVariants.{Channels}
@@ -20,12 +20,12 @@ use Rattle.plan.proofs.Decides.{all_ranked, kept_lawful, passed}
 use Rattle.plan.proofs.Rows.{rows_at}
 use Rattle.checker.specs.declared.Accepted.{Accepted}
 use Rattle.checker.specs.Checked.{accepted, checked, first_refusal}
-use Rattle.checker.specs.Pages.{ends_fault, ends_or_none, ends_refusal, no_ends}
+use Rattle.checker.specs.Pages.{pages_fault, frames_or_none, pages_refusal, no_frames}
 use Rattle.checker.specs.Roots.{root_refusal}
 use Rattle.checker.specs.Sharing.{lent_refusal, share_refusal}
 use Rattle.checker.specs.Tables.{table_refusal}
 use Rattle.checker.specs.Lawful.{Apart, Leads, Usable, root}
-use Rattle.checker.specs.Found.{AcceptedSeparate, AcceptedUnshared, Behind, ChannelJoins, Finding, FirstFound, Found, Judges, Lawful, Separate, Sound, found_at, refusal_of, rule_of}
+use Rattle.checker.specs.Found.{AcceptedSeparate, AcceptedUnshared, FrameOf, ChannelJoins, Finding, FirstFound, Found, Judges, Lawful, Separate, Sound, found_at, refusal_of, rule_of}
 use Rattle.checker.specs.Found.Finding.{broken, pages_unread, tables_unread}
 use Rattle.checker.proofs.Chain.{Asked, chain, last}
 use Rattle.checker.proofs.Forms as forms
@@ -94,14 +94,14 @@ module _ (bytes words : List ℕ) where
   none_lawful none =
       let p = plan_of bytes in
       let n = all_none (truncated bytes p) (first (count_fault p.counts) 3) (first (slot_fault p) p.counts.slots) (first (channel_fault p) p.counts.channels)
-      (first (ends_refusal words p) p.counts.channels) (first (root_refusal words p) p.counts.partitions) (first (table_refusal words p) p.counts.partitions)
+      (first (pages_refusal words p) p.counts.channels) (first (root_refusal words p) p.counts.partitions) (first (table_refusal words p) p.counts.partitions)
       (first (share_refusal words p) p.counts.partitions) (first (start_fault p) p.counts.partitions) (budget_fault p) (lent_refusal words p) (surplus bytes p) none in
       let tables = all_formed bytes words n.6 in
       let apart : (k : ℕ) → k < p.counts.partitions → Apart words p k = λ k l.
       (apart_decides words p k (λ q h. tables q (omega arith))).0 (passed _ _ (none_below (share_refusal words p) p.counts.partitions n.7 k l)) in
       record {
         plan = kept_lawful bytes n.0 n.1 n.2 n.3 n.8 n.9 n.11;
-        pages = λ k l. joined.none_fit words p k (refused_none (ChannelPage k) (ends_fault words p k) (none_below (ends_refusal words p) p.counts.channels n.4 k l));
+        pages = λ k l. joined.none_fit words p k (refused_none (ChannelPage k) (pages_fault words p k) (none_below (pages_refusal words p) p.counts.channels n.4 k l));
         roots = λ k l. (root_decides words p k).0 (passed _ _ (none_below (root_refusal words p) p.counts.partitions n.5 k l));
         tables = tables;
         apart = λ a b la lb c. elim (cases_lt a b) [
@@ -117,21 +117,21 @@ module _ (bytes words : List ℕ) where
         let r = root (plan_of bytes) k in
         (leads_maps words r page leaf).maps h (lawful.all_lent k leaf.frame l (named_leaf words r page leaf h))
 
-    behind_end : (end : Endpoint) (receives : Bool) (f : ℕ) → end.partition < (plan_of bytes).counts.partitions → Usable words (plan_of bytes) end receives f → Behind words (plan_of bytes) end f
+    behind_end : (end : Endpoint) (receives : Bool) (f : ℕ) → end.partition < (plan_of bytes).counts.partitions → Usable words (plan_of bytes) end receives f → FrameOf words (plan_of bytes) end f
     behind_end end receives f l u = record { leaf = u.leaf; maps = maps_leaf end.partition end.page u.leaf l u.leads; readable = u.readable; frame_is = u.frame_is }
 
-    joins_at : (k : ℕ) → k < (plan_of bytes).counts.channels → ChannelJoins words (plan_of bytes) k (get_or (accepted words (plan_of bytes)).ends k no_ends)
+    joins_at : (k : ℕ) → k < (plan_of bytes).counts.channels → ChannelJoins words (plan_of bytes) k (get_or (accepted words (plan_of bytes)).frames k no_frames)
     unfolding behind_end
     joins_at k l =
         let p = plan_of bytes in
         let fit = lawful.pages k l in
-        let ends = lawful.plan.channels k l in
+        let frames = lawful.plan.channels k l in
         let room : k < 16 = omega (arith, lawful.plan.counts Channels) in
-        let is : get_or (accepted words p).ends k no_ends ≡ fit.ends =
-        rows_at (ends_or_none words p) no_ends 16 p.counts.channels k room ∙ cond-true _ _ _ (lt-ltb k p.counts.channels l) ∙ joined.ends_kept words p k fit.ends fit.joins in
+        let is : get_or (accepted words p).frames k no_frames ≡ fit.frames =
+        rows_at (frames_or_none words p) no_frames 16 p.counts.channels k room ∙ cond-true _ _ _ (lt-ltb k p.counts.channels l) ∙ joined.frames_kept words p k fit.frames fit.joins in
         subst (ChannelJoins words p k) (sym is) (record {
-          sender = behind_end (channel p k).sender false fit.ends.sender ends.0 fit.joins.sender;
-          receiver = behind_end (channel p k).receiver true fit.ends.receiver ends.1 fit.joins.receiver;
+          sender = behind_end (channel p k).sender false fit.frames.sender frames.0 fit.joins.sender;
+          receiver = behind_end (channel p k).receiver true fit.frames.receiver frames.1 fit.joins.receiver;
           only_read = fit.joins.receiver.not_writable refl;
         })
 
@@ -176,6 +176,6 @@ accepted_unshared bytes words a e =
     let p = a.plan in
     record {
       alone = λ j k page other leaf there lj lk m n same.
-          s.alone j k there.frame lj lk (subst (Names words (root p j)) same (leaves_named words (root p j) page leaf m)) (leaves_named words (root p k) other there n);
+          s.alone j k there.frame lj lk (subst (References words (root p j)) same (leaves_named words (root p j) page leaf m)) (leaves_named words (root p k) other there n);
       hidden = λ j k page leaf lj lk m held. s.hidden j k leaf.frame lj lk (leaves_named words (root p j) page leaf m) held;
     }

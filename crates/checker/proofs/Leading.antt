@@ -1,17 +1,17 @@
 -- What a page leads to, and what it maps to.
 use Rattle.std.proofs.Common.{ℕ, List}
 use Rattle.paging.specs.declared.leaf.Leaf.{Leaf}
-use Rattle.paging.specs.Tables.{Names}
+use Rattle.paging.specs.Tables.{References}
 use Rattle.checker.specs.Lawful.{Leads, LeadsMaps}
 
-pub named_leaf : (words : List ℕ) (root page : ℕ) (leaf : Leaf) → Leads words root page leaf → Names words root leaf.frame
+pub named_leaf : (words : List ℕ) (root page : ℕ) (leaf : Leaf) → Leads words root page leaf → References words root leaf.frame
 named_leaf words root page leaf h = record {
   table = h.table;
   by = record { at = h.high; within = h.high_below; points = h.points };
   at = h.low;
   within = h.low_below;
   valid = h.leads.valid;
-  names = h.leads.frame;
+  references = h.leads.frame;
 }
 
 pub leads_maps : LeadsMaps

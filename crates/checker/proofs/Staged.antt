@@ -2,8 +2,8 @@
 use Rattle.std.proofs.Common.{◌≡◌, ℕ, ◌<◌, Bool, true, false, ◌⊎◌, List, length, Some, None, Decides, Option, sym, refl, ap, ◌∙◌, subst, inl, inr, arith}
 use Rattle.std.proofs.lemmas.Bool.{and_from, and_parts, both_ways, eq-eqb, eqb-true, leb-true, le-leb, lt-ltb, ltb-true, not-true, true≢false}
 use Rattle.std.proofs.lemmas.Bool.Decides.{nat_tests}
-use Rattle.words.specs.First.{any, first}
-use Rattle.words.proofs.First.{all_not, any_here, none_below}
+use Rattle.ranges.specs.Questions.{any, first}
+use Rattle.ranges.proofs.Questions.{all_not, any_here, none_below}
 use Rattle.plan.specs.declared.model.Plan.{Plan}
 use Rattle.plan.specs.declared.refusal.Refusal.{Refusal}
 use Rattle.plan.specs.declared.refusal.Refusal.TheVariants.{Truncated, ChannelPage, TableMalformed, BudgetRule, FramesMissing, Surplus}
@@ -15,7 +15,7 @@ use Rattle.plan.proofs.Decides.{at_number, budget_decides, channel_decides, coun
 use Rattle.checker.specs.declared.fault.Fault.{Fault}
 use Rattle.checker.specs.declared.fault.Fault.TheVariants.{Broken as RuleBroken, NotLent}
 use Rattle.checker.specs.Faults.{refused_by}
-use Rattle.checker.specs.Pages.{ends_fault, ends_refusal}
+use Rattle.checker.specs.Pages.{pages_fault, pages_refusal}
 use Rattle.checker.specs.Roots.{root_kept, root_refusal, same_root}
 use Rattle.checker.specs.Sharing.{apart_kept, lent_kept, lent_refusal, share_refusal}
 use Rattle.checker.specs.Tables.{root_fault, table_refusal}
@@ -165,9 +165,9 @@ module _ (bytes words : List ℕ) where
           | inr is ↦ (u_found (found_at d) (subst (Found bytes words) is b)).0
         ])
 
-  pub pages_stage : Staged (first (ends_refusal words (plan_of bytes)) (plan_of bytes).counts.channels) 5
+  pub pages_stage : Staged (first (pages_refusal words (plan_of bytes)) (plan_of bytes).counts.channels) 5
   unfolding Found
-  pages_stage = faults 5 (plan_of bytes).counts.channels (ends_fault words (plan_of bytes)) ChannelPage pages_unread (PagesFit words (plan_of bytes)) (PagesUnread words (plan_of bytes))
+  pages_stage = faults 5 (plan_of bytes).counts.channels (pages_fault words (plan_of bytes)) ChannelPage pages_unread (PagesFit words (plan_of bytes)) (PagesUnread words (plan_of bytes))
       kinds_5 (λ k. refl) (λ k. refl) (λ k. refl) (λ k. refl) (λ k. refl)
       (λ k l u f. (l, u, f)) (λ k b. b) (λ k l u. (l, u)) (λ k b. b)
       (joined.none_fit words (plan_of bytes)) (joined.fit_none words (plan_of bytes)) (joined.unlent_unread words (plan_of bytes)) (joined.unread_unlent words (plan_of bytes))

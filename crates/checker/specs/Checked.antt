@@ -2,13 +2,13 @@
 use Rattle.std.specs.Prelude.{◌≡◌, ℕ, ◌<◌, ◌≤◌, List, take, Option, Result}
 use Rattle.std.specs.Option.{option_or}
 use Rattle.words.specs.Bytes.{byte}
-use Rattle.words.specs.First.{first, unless}
+use Rattle.ranges.specs.Questions.{first, unless}
 use Rattle.plan.specs.declared.model.Plan.{Plan}
 use Rattle.plan.specs.declared.refusal.Refusal.{Refusal}
 use Rattle.plan.specs.Format.{longest, plan_of, rows}
 use Rattle.plan.specs.Rules.{budget_fault, channel_fault, count_fault, slot_fault, start_fault, surplus, truncated}
 use Rattle.checker.specs.declared.Accepted.{Accepted}
-use Rattle.checker.specs.Pages.{ends_or_none, no_ends, ends_refusal}
+use Rattle.checker.specs.Pages.{frames_or_none, no_frames, pages_refusal}
 use Rattle.checker.specs.Roots.{root_refusal}
 use Rattle.checker.specs.Sharing.{lent_refusal, share_refusal}
 use Rattle.checker.specs.Tables.{table_refusal}
@@ -20,7 +20,7 @@ first_refusal bytes words p =
     (option_or (first (count_fault p.counts) 3)
     (option_or (first (slot_fault p) p.counts.slots)
     (option_or (first (channel_fault p) p.counts.channels)
-    (option_or (first (ends_refusal words p) p.counts.channels)
+    (option_or (first (pages_refusal words p) p.counts.channels)
     (option_or (first (root_refusal words p) p.counts.partitions)
     (option_or (first (table_refusal words p) p.counts.partitions)
     (option_or (first (share_refusal words p) p.counts.partitions)
@@ -31,7 +31,7 @@ first_refusal bytes words p =
 
 -- the plan, and the frames behind the pages of its channels
 abbrev pub accepted : List ℕ → Plan → Accepted
-accepted words p = record { plan = p; ends = rows (ends_or_none words p) no_ends 16 p.counts.channels }
+accepted words p = record { plan = p; frames = rows (frames_or_none words p) no_frames 16 p.counts.channels }
 
 -- the refusal of the first rule that is not kept, or the plan that the bytes say
 unfoldable pub checked : List ℕ → List ℕ → Result Accepted Refusal

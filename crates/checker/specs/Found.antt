@@ -2,7 +2,7 @@
 use Rattle.std.specs.Prelude.{◌≡◌, ℕ, ◌<◌, ◌≤◌, true, false, ◌⊎◌, List, length, Ok, Result, MatchResult}
 use Rattle.paging.specs.declared.leaf.Leaf.{Leaf}
 use Rattle.paging.specs.Mapping.{Maps}
-use Rattle.paging.specs.Tables.{KernelFrame, Names}
+use Rattle.paging.specs.Tables.{PageTableFrame, References}
 use Rattle.plan.specs.declared.model.Endpoint.{Endpoint}
 use Rattle.plan.specs.declared.model.Plan.{Plan}
 use Rattle.plan.specs.declared.refusal.Refusal.{Refusal}
@@ -12,9 +12,9 @@ use Rattle.plan.specs.Lawful.{BudgetFits, ChannelFits, CountFits, PlanLawful, Sl
 use Rattle.plan.specs.Refused.{number_of, place_of, rank}
 use Rattle.plan.specs.Rules.{channel}
 use Rattle.checker.specs.declared.Accepted.{Accepted}
-use Rattle.checker.specs.declared.pages.Ends.{Ends}
+use Rattle.checker.specs.declared.pages.ChannelFrames.{ChannelFrames}
 use Rattle.checker.specs.Checked.{accepted, checked}
-use Rattle.checker.specs.Pages.{ends_at}
+use Rattle.checker.specs.Pages.{frames_at}
 use Rattle.checker.specs.Lawful.{AllLent, Apart, Conflict, Formed, PagesFit, PagesUnread, RootFits, TablesUnread, root}
 
 -- a rule is broken at its place; or, in the turn of the rule on channels' pages or of that on page tables, a frame that is not lent would have to be read
@@ -86,23 +86,23 @@ pub record Lawful (bytes words : List ℕ) : Type 0 where
   pub all_lent : AllLent words (plan_of bytes)
 
 -- a page of a partition maps to a leaf of the frame that may be read
-pub record Behind (words : List ℕ) (p : Plan) (end : Endpoint) (frame : ℕ) : Type 0 where
+pub record FrameOf (words : List ℕ) (p : Plan) (end : Endpoint) (frame : ℕ) : Type 0 where
   pub leaf : Leaf
   pub maps : Maps words (root p end.partition) end.page leaf
   pub readable : leaf.readable ≡ true
   pub frame_is : leaf.frame ≡ frame
 
 -- the frames that an accepted plan comes with are those behind its channels' pages, and the receiver cannot write its own
-pub record ChannelJoins (words : List ℕ) (p : Plan) (k : ℕ) (ends : Ends) : Type 0 where
-  pub sender : Behind words p (channel p k).sender ends.sender
-  pub receiver : Behind words p (channel p k).receiver ends.receiver
+pub record ChannelJoins (words : List ℕ) (p : Plan) (k : ℕ) (frames : ChannelFrames) : Type 0 where
+  pub sender : FrameOf words p (channel p k).sender frames.sender
+  pub receiver : FrameOf words p (channel p k).receiver frames.receiver
   pub only_read : receiver.leaf.writable ≡ false
 
 -- what an accepted plan has
 pub record Sound (bytes words : List ℕ) (a : Accepted) : Type 0 where
   pub lawful : Lawful bytes words
   pub plan : a.plan ≡ plan_of bytes
-  pub joins : (k : ℕ) → k < (plan_of bytes).counts.channels → ChannelJoins words (plan_of bytes) k (ends_at a.ends k)
+  pub joins : (k : ℕ) → k < (plan_of bytes).counts.channels → ChannelJoins words (plan_of bytes) k (frames_at a.frames k)
 
 -- what a verdict has to be
 pub record Judges (bytes words : List ℕ) (r : Result Accepted Refusal) : Type 0 where
@@ -113,10 +113,10 @@ pub record Judges (bytes words : List ℕ) (r : Result Accepted Refusal) : Type 
 abbrev pub CheckedJudges : Type 0
 CheckedJudges = (bytes words : List ℕ) → Judges bytes words (checked bytes words)
 
--- in an accepted plan no frame is named by two partitions, and no root or table by any
+-- in an accepted plan no frame is referenced by two partitions, and no root or table by any
 pub record Separate (words : List ℕ) (p : Plan) : Type 0 where
-  pub alone : (a b f : ℕ) → a < p.counts.partitions → b < p.counts.partitions → Names words (root p a) f → Names words (root p b) f → a ≡ b
-  pub hidden : (a b f : ℕ) → a < p.counts.partitions → b < p.counts.partitions → Names words (root p a) f → KernelFrame words (root p b) f → ⊥
+  pub alone : (a b f : ℕ) → a < p.counts.partitions → b < p.counts.partitions → References words (root p a) f → References words (root p b) f → a ≡ b
+  pub hidden : (a b f : ℕ) → a < p.counts.partitions → b < p.counts.partitions → References words (root p a) f → PageTableFrame words (root p b) f → ⊥
 
 abbrev pub AcceptedSeparate : Type 0
 AcceptedSeparate = (bytes words : List ℕ) (a : Accepted) → checked bytes words ≡ Ok a → Separate words a.plan
@@ -126,7 +126,7 @@ pub record Unshared (words : List ℕ) (p : Plan) : Type 0 where
   pub alone : (a b page other : ℕ) (leaf there : Leaf) → a < p.counts.partitions → b < p.counts.partitions →
       Maps words (root p a) page leaf → Maps words (root p b) other there → leaf.frame ≡ there.frame → a ≡ b
   pub hidden : (a b page : ℕ) (leaf : Leaf) → a < p.counts.partitions → b < p.counts.partitions →
-      Maps words (root p a) page leaf → KernelFrame words (root p b) leaf.frame → ⊥
+      Maps words (root p a) page leaf → PageTableFrame words (root p b) leaf.frame → ⊥
 
 abbrev pub AcceptedUnshared : Type 0
 AcceptedUnshared = (bytes words : List ℕ) (a : Accepted) → checked bytes words ≡ Ok a → Unshared words a.plan

@@ -5,11 +5,11 @@ use Rattle.words.specs.Frames.{word}
 use Rattle.paging.specs.declared.leaf.Leaf.{Leaf}
 use Rattle.paging.specs.Entries.{frame_of, is_leaf, is_valid}
 use Rattle.paging.specs.Mapping.{InMemory, LeafEntry, Maps, Pointer}
-use Rattle.paging.specs.Tables.{KernelFrame, Names}
+use Rattle.paging.specs.Tables.{PageTableFrame, References}
 use Rattle.plan.specs.declared.model.Endpoint.{Endpoint}
 use Rattle.plan.specs.declared.model.Plan.{Plan}
 use Rattle.plan.specs.Rules.{channel, partition}
-use Rattle.checker.specs.declared.pages.Ends.{Ends}
+use Rattle.checker.specs.declared.pages.ChannelFrames.{ChannelFrames}
 
 -- all words of a frame are lent
 abbrev pub Lent : List ℕ → ℕ → Type 0
@@ -24,7 +24,7 @@ pub record RootFits (words : List ℕ) (p : Plan) (k : ℕ) : Type 0 where
   pub below : root p k < 256
   pub own : (j : ℕ) → j < k → root p j ≢ root p k
 
--- every valid entry of a table is a leaf, and names one of the 256 frames
+-- every valid entry of a table is a leaf, and references one of the 256 frames
 abbrev pub TableFormed : List ℕ → ℕ → Type 0
 TableFormed words table = (k : ℕ) → k < 1024 → is_valid (word words table k) ≡ true → (is_leaf (word words table k) ≡ true) × (frame_of (word words table k) < 256)
 
@@ -82,19 +82,19 @@ pub record Usable (words : List ℕ) (p : Plan) (end : Endpoint) (receives : Boo
   pub frame_is : leaf.frame ≡ frame
 
 -- channel k joins two frames
-pub record Joins (words : List ℕ) (p : Plan) (k : ℕ) (ends : Ends) : Type 0 where
-  pub sender : Usable words p (channel p k).sender false ends.sender
-  pub receiver : Usable words p (channel p k).receiver true ends.receiver
+pub record Joins (words : List ℕ) (p : Plan) (k : ℕ) (frames : ChannelFrames) : Type 0 where
+  pub sender : Usable words p (channel p k).sender false frames.sender
+  pub receiver : Usable words p (channel p k).receiver true frames.receiver
 
 -- one frame is an end of both
-abbrev pub Touch : Ends → Ends → Type 0
+abbrev pub Touch : ChannelFrames → ChannelFrames → Type 0
 Touch a b = (a.sender ≡ b.sender) ⊎ ((a.sender ≡ b.receiver) ⊎ ((a.receiver ≡ b.sender) ⊎ (a.receiver ≡ b.receiver)))
 
 -- channel k joins two frames, neither of them an end of an earlier channel
 pub record PagesFit (words : List ℕ) (p : Plan) (k : ℕ) : Type 0 where
-  pub ends : Ends
-  pub joins : Joins words p k ends
-  pub alone : (j : ℕ) → j < k → (others : Ends) → Joins words p j others → Touch ends others → ⊥
+  pub frames : ChannelFrames
+  pub joins : Joins words p k frames
+  pub alone : (j : ℕ) → j < k → (others : ChannelFrames) → Joins words p j others → Touch frames others → ⊥
 
 abbrev pub EndUnread : List ℕ → Plan → Endpoint → Type 0
 EndUnread words p end = PageUnread words (root p end.partition) end.page
@@ -105,14 +105,14 @@ PagesUnread words p k =
     EndUnread words p (channel p k).sender
     ⊎ (((frame : ℕ) × Usable words p (channel p k).sender false frame) × EndUnread words p (channel p k).receiver)
 
--- two partitions are in conflict over a frame that the first names: the other names it too, or has it as its root or a table
+-- two partitions are in conflict over a frame that the first references: the other references it too, or has it as its root or a table
 abbrev pub Conflict : List ℕ → Plan → ℕ → ℕ → Type 0
-Conflict words p a b = (f : ℕ) × Names words (root p a) f × (((a ≢ b) × Names words (root p b) f) ⊎ KernelFrame words (root p b) f)
+Conflict words p a b = (f : ℕ) × References words (root p a) f × (((a ≢ b) × References words (root p b) f) ⊎ PageTableFrame words (root p b) f)
 
 -- a partition is in conflict with none that is no later
 abbrev pub Apart : List ℕ → Plan → ℕ → Type 0
 Apart words p k = (j : ℕ) → j ≤ k → Conflict words p k j ⊎ Conflict words p j k → ⊥
 
--- every frame that a partition names is lent
+-- every frame that a partition references is lent
 abbrev pub AllLent : List ℕ → Plan → Type 0
-AllLent words p = (k f : ℕ) → k < p.counts.partitions → Names words (root p k) f → Lent words f
+AllLent words p = (k f : ℕ) → k < p.counts.partitions → References words (root p k) f → Lent words f

@@ -1,6 +1,6 @@
--- Which frames are kernel frames of a root, and which its tables name, as tests.
+-- Which frames are page-table frames of a root, and which its tables name, as tests.
 use Rattle.std.specs.Prelude.{ℕ, Bool, ◌&&◌, ◌||◌, List, ◌==◌}
-use Rattle.words.specs.First.{any}
+use Rattle.ranges.specs.Questions.{any}
 use Rattle.words.specs.Frames.{word}
 use Rattle.paging.specs.Entries.{frame_of, is_pointer, is_valid}
 
@@ -16,20 +16,20 @@ points words root = passes is_pointer words root
 unfoldable pub pointed : List ℕ → ℕ → ℕ → Bool
 pointed words root frame = any (points words root frame) 1024
 
--- entry k of a table names the frame
-abbrev pub named_entry : List ℕ → ℕ → ℕ → ℕ → Bool
-named_entry words table = passes is_valid words table
+-- entry k of a table references the frame
+abbrev pub referencing_entry : List ℕ → ℕ → ℕ → ℕ → Bool
+referencing_entry words table = passes is_valid words table
 
-unfoldable pub names_in : List ℕ → ℕ → ℕ → Bool
-names_in words table frame = any (named_entry words table frame) 1024
+unfoldable pub references_in : List ℕ → ℕ → ℕ → Bool
+references_in words table frame = any (referencing_entry words table frame) 1024
 
-abbrev pub named_by : List ℕ → ℕ → ℕ → ℕ → Bool
-named_by words root frame table = pointed words root table && names_in words table frame
+abbrev pub referenced_by : List ℕ → ℕ → ℕ → ℕ → Bool
+referenced_by words root frame table = pointed words root table && references_in words table frame
 
--- a table of the root, among the 256 frames, names the frame
-unfoldable pub names : List ℕ → ℕ → ℕ → Bool
-names words root frame = any (named_by words root frame) 256
+-- a table of the root, among the 256 frames, references the frame
+unfoldable pub references : List ℕ → ℕ → ℕ → Bool
+references words root frame = any (referenced_by words root frame) 256
 
 -- the root itself, or a table that it points to
-unfoldable pub kernel_test : List ℕ → ℕ → ℕ → Bool
-kernel_test words root frame = pointed words root frame || root == frame
+unfoldable pub is_page_table_frame : List ℕ → ℕ → ℕ → Bool
+is_page_table_frame words root frame = pointed words root frame || root == frame

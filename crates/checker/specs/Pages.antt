@@ -1,6 +1,6 @@
 -- The rule on the pages of channels, as tests.
 use Rattle.std.specs.Prelude.{ℕ, ◌/◌, ◌%◌, Bool, true, false, cond, not, ◌&&◌, ◌||◌, List, Some, None, Ok, Err, Option, Result, ◌==◌, nat_lt, slice_index_or}
-use Rattle.words.specs.First.{any}
+use Rattle.ranges.specs.Questions.{any}
 use Rattle.words.specs.Frames.{word}
 use Rattle.paging.specs.declared.leaf.Leaf.{Leaf}
 use Rattle.paging.specs.Entries.{frame_of, is_pointer, leaf_of}
@@ -11,7 +11,7 @@ use Rattle.plan.specs.declared.refusal.Refusal.TheVariants.{ChannelPage}
 use Rattle.plan.specs.Rules.{channel, partition}
 use Rattle.checker.specs.declared.fault.Fault.{Fault}
 use Rattle.checker.specs.declared.fault.Fault.TheVariants.{Broken}
-use Rattle.checker.specs.declared.pages.Ends.{Ends}
+use Rattle.checker.specs.declared.pages.ChannelFrames.{ChannelFrames}
 use Rattle.checker.specs.Faults.{frame_fault, refused_by}
 
 -- an answer where a frame can be read
@@ -41,46 +41,46 @@ usable receives (Err fault) = Err fault
 unfoldable pub end_frame : List ℕ → Plan → Endpoint → Bool → Result ℕ Fault
 end_frame words p end receives = usable receives (looked_up words (partition p end.partition).root end.page)
 
-abbrev pub both_ends : Result ℕ Fault → Result ℕ Fault → Result Ends Fault
-both_ends (Ok a) (Ok b) = Ok (record { sender = a; receiver = b })
-both_ends (Ok a) (Err fault) = Err fault
-both_ends (Err fault) r = Err fault
+abbrev pub both_frames : Result ℕ Fault → Result ℕ Fault → Result ChannelFrames Fault
+both_frames (Ok a) (Ok b) = Ok (record { sender = a; receiver = b })
+both_frames (Ok a) (Err fault) = Err fault
+both_frames (Err fault) r = Err fault
 
 -- the frames behind the pages of channel k, the sender's first
-unfoldable pub behind : List ℕ → Plan → ℕ → Result Ends Fault
-behind words p k = both_ends (end_frame words p (channel p k).sender false) (end_frame words p (channel p k).receiver true)
+unfoldable pub channel_frames : List ℕ → Plan → ℕ → Result ChannelFrames Fault
+channel_frames words p k = both_frames (end_frame words p (channel p k).sender false) (end_frame words p (channel p k).receiver true)
 
 -- one frame is behind a page of both
-abbrev pub touch : Ends → Ends → Bool
+abbrev pub touch : ChannelFrames → ChannelFrames → Bool
 touch a b = a.sender == b.sender || (a.sender == b.receiver || (a.receiver == b.sender || a.receiver == b.receiver))
 
-abbrev pub touches : Ends → Result Ends Fault → Bool
+abbrev pub touches : ChannelFrames → Result ChannelFrames Fault → Bool
 touches a (Ok b) = touch a b
 touches a (Err fault) = false
 
-unfoldable pub meets : List ℕ → Plan → Ends → ℕ → Bool
-meets words p a j = touches a (behind words p j)
+unfoldable pub meets : List ℕ → Plan → ChannelFrames → ℕ → Bool
+meets words p a j = touches a (channel_frames words p j)
 
-abbrev pub taken_fault : List ℕ → Plan → ℕ → Result Ends Fault → Option Fault
+abbrev pub taken_fault : List ℕ → Plan → ℕ → Result ChannelFrames Fault → Option Fault
 taken_fault words p k (Ok a) = cond (any (meets words p a) k) (Some Broken) None
 taken_fault words p k (Err fault) = Some fault
 
-unfoldable pub ends_fault : List ℕ → Plan → ℕ → Option Fault
-ends_fault words p k = taken_fault words p k (behind words p k)
+unfoldable pub pages_fault : List ℕ → Plan → ℕ → Option Fault
+pages_fault words p k = taken_fault words p k (channel_frames words p k)
 
-abbrev pub ends_refusal : List ℕ → Plan → ℕ → Option Refusal
-ends_refusal words p k = refused_by (ChannelPage k) (ends_fault words p k)
+abbrev pub pages_refusal : List ℕ → Plan → ℕ → Option Refusal
+pages_refusal words p k = refused_by (ChannelPage k) (pages_fault words p k)
 
-abbrev pub no_ends : Ends
-no_ends = record { sender = 0; receiver = 0 }
+abbrev pub no_frames : ChannelFrames
+no_frames = record { sender = 0; receiver = 0 }
 
 -- the frames of channel k in a row of them
-abbrev pub ends_at : List Ends → ℕ → Ends
-ends_at ends k = slice_index_or ends k no_ends
+abbrev pub frames_at : List ChannelFrames → ℕ → ChannelFrames
+frames_at frames k = slice_index_or frames k no_frames
 
-abbrev pub or_no_ends : Result Ends Fault → Ends
-or_no_ends (Ok a) = a
-or_no_ends (Err fault) = no_ends
+abbrev pub or_no_frames : Result ChannelFrames Fault → ChannelFrames
+or_no_frames (Ok a) = a
+or_no_frames (Err fault) = no_frames
 
-unfoldable pub ends_or_none : List ℕ → Plan → ℕ → Ends
-ends_or_none words p k = or_no_ends (behind words p k)
+unfoldable pub frames_or_none : List ℕ → Plan → ℕ → ChannelFrames
+frames_or_none words p k = or_no_frames (channel_frames words p k)

@@ -1,6 +1,6 @@
 -- The rule on the lent frames and the roots, as a test.
 use Rattle.std.specs.Prelude.{ℕ, ◌/◌, Bool, not, ◌&&◌, List, length, Option, ◌==◌, nat_le, nat_lt}
-use Rattle.words.specs.First.{any}
+use Rattle.ranges.specs.Questions.{any}
 use Rattle.plan.specs.declared.model.Plan.{Plan}
 use Rattle.plan.specs.declared.refusal.Refusal.{Refusal}
 use Rattle.plan.specs.declared.refusal.Refusal.TheVariants.{RootRule}

@@ -1,7 +1,7 @@
 -- The rule on the form of page tables as tests: entries are read from the first on, and the first at fault decides.
 use Rattle.std.specs.Prelude.{ℕ, Bool, cond, not, ◌&&◌, List, Some, None, Option, nat_lt}
 use Rattle.std.specs.Option.{option_or}
-use Rattle.words.specs.First.{any, first}
+use Rattle.ranges.specs.Questions.{any, first}
 use Rattle.words.specs.Frames.{lent, word}
 use Rattle.paging.specs.Entries.{frame_of, is_leaf, is_pointer, is_valid}
 use Rattle.plan.specs.declared.model.Plan.{Plan}

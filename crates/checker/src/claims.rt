@@ -1,38 +1,38 @@
-// What partitions claim: the frames that their tables name, and their kernel frames, which are roots and tables.
+// What partitions claim: the frames that their tables name, and their page-table frames, which are roots and tables.
 ghost use Rattle.std.specs.Prelude.{◌≡◌, ◌||◌};
-ghost use Rattle.words.specs.First.{any};
+ghost use Rattle.ranges.specs.Questions.{any};
 ghost use Rattle.checker.specs.Sharing.{clash};
 ghost use Rattle.checker.specs.Scaffold.{Shows, clash_claims, marked};
 
 use crate::marks::Marks;
 use paging::walk::MOST_FRAMES;
 
-// `named` and `kernel` of a partition, `others` and `tables` of those before it.
+// `referenced` and `kernel` of a partition, `others` and `tables` of those before it.
 #[tactic(auto, unfolding(crate::specs::Sharing::clash))]
-fn clashes(named: bool, kernel: bool, others: bool, tables: bool) -> bool
-    ensures { result ≡ clash named kernel others tables }
+fn clashes(referenced: bool, page_tables: bool, others: bool, tables: bool) -> bool
+    ensures { result ≡ clash referenced page_tables others tables }
 {
-    named && (others || tables || kernel) || kernel && others
+    referenced && (others || tables || page_tables) || page_tables && others
 }
 
 #[derive(Clone, Copy)]
 pub(crate) struct Claims {
-    pub(crate) named: Marks,
-    pub(crate) kernel: Marks,
+    pub(crate) referenced: Marks,
+    pub(crate) page_tables: Marks,
 }
 
 impl Claims {
     pub(crate) const NONE: Claims = Claims {
-        named: Marks::NONE,
-        kernel: Marks::NONE,
+        referenced: Marks::NONE,
+        page_tables: Marks::NONE,
     };
 
     pub(crate) fn add(&mut self, more: &Claims)
-        ensures named { Shows self.new.named (λ f. marked self.old.named f || marked more.now.named f) }
-        ensures kernel { Shows self.new.kernel (λ f. marked self.old.kernel f || marked more.now.kernel f) }
+        ensures referenced { Shows self.new.referenced (λ f. marked self.old.referenced f || marked more.now.referenced f) }
+        ensures page_tables { Shows self.new.page_tables (λ f. marked self.old.page_tables f || marked more.now.page_tables f) }
     {
-        self.named.add(&more.named);
-        self.kernel.add(&more.kernel);
+        self.referenced.add(&more.referenced);
+        self.page_tables.add(&more.page_tables);
     }
 
     // Whether a frame is claimed here and by partitions before in a way that the rule forbids.
@@ -41,10 +41,10 @@ impl Claims {
     {
         (0..MOST_FRAMES).any(|f| {
             clashes(
-                self.named.has(f),
-                self.kernel.has(f),
-                earlier.named.has(f),
-                earlier.kernel.has(f),
+                self.referenced.has(f),
+                self.page_tables.has(f),
+                earlier.referenced.has(f),
+                earlier.page_tables.has(f),
             )
         })
     }

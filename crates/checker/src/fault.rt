@@ -1,7 +1,7 @@
 // What stops the check of a rule: it is broken, or a frame that is not lent would have to be read.
 ghost use Rattle.std.specs.Prelude.{◌≡◌};
 ghost use Rattle.checker.specs.Faults.{frame_fault, refused_with};
-ghost use Rattle.words.specs.First.{unless};
+ghost use Rattle.ranges.specs.Questions.{unless};
 
 use paging::walk::MOST_FRAMES;
 use plan::refusal::Refusal;

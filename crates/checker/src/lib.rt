@@ -14,7 +14,7 @@ mod roots;
 mod sharing;
 mod tables;
 
-use crate::pages::{Ends, all_ends, check_pages};
+use crate::pages::{ChannelFrames, all_channel_frames, check_pages};
 use crate::roots::check_roots;
 use crate::sharing::Naming;
 use plan::model::{MOST_CHANNELS, Plan};
@@ -24,7 +24,7 @@ use plan::refusal::Refusal;
 #[derive(Clone, Copy)]
 pub struct Accepted {
     pub plan: Plan,
-    pub ends: [Ends; MOST_CHANNELS],
+    pub frames: [ChannelFrames; MOST_CHANNELS],
 }
 
 // The plan that the bytes say, with the frames of its channels, or the refusal of the first rule that it or the lent words break.
@@ -56,11 +56,11 @@ fn first_refusal(bytes: &[u8], words: &[u32]) -> Result<Accepted, Refusal>
     plan.check_end(bytes)?;
     Ok(Accepted {
         plan,
-        ends: all_ends(words, &plan),
+        frames: all_channel_frames(words, &plan),
     })
 }
 
-// A verdict is the only one, and stands on what pages map to. In an accepted plan no frame is named by two partitions, and no kernel frame
+// A verdict is the only one, and stands on what pages map to. In an accepted plan no frame is referenced by two partitions, and no page-table frame
 // by any, so no page leads there. A file is not read further than a byte past the longest plan.
 pub fn laws()
     ensures judges { CheckedJudges }

@@ -41,8 +41,8 @@ impl Marks {
         self.marks = array::from_fn(|f| self.marks[f] || more.marks[f]);
     }
 
-    // Marks the frame that an entry names, if it is valid.
-    pub(crate) fn mark_named(&mut self, entry: Entry)
+    // Marks the frame that an entry references, if it is valid.
+    pub(crate) fn mark_referenced(&mut self, entry: Entry)
         ensures { Shows self.new (λ f. marked self.old f || (is_valid entry.0 && frame_of entry.0 == f)) }
     {
         if entry.is_valid() {

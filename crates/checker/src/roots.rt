@@ -1,7 +1,7 @@
 // The rule on the lent frames and the roots: at most 256 frames, and each root one of them, no other partition's.
 // Words and plan, or words and root, are two parameters, as lib.rt says.
 ghost use Rattle.std.specs.Prelude.{◌≡◌};
-ghost use Rattle.words.specs.First.{any, first, unless};
+ghost use Rattle.ranges.specs.Questions.{any, first, unless};
 ghost use Rattle.checker.specs.Lawful.{root};
 ghost use Rattle.checker.specs.Roots.{root_refusal, same_root};
 

@@ -1,10 +1,10 @@
-// The rules on the frames that partitions name: none is named by two, none is a kernel frame, and all are lent.
+// The rules on the frames that partitions name: none is referenced by two, none is a page-table frame, and all are lent.
 // Words and plan, or words and root, are two parameters, as lib.rt says.
 ghost use Rattle.std.specs.Prelude.{◌≡◌, not, IfOk};
-ghost use Rattle.words.specs.First.{any, first, unless};
+ghost use Rattle.ranges.specs.Questions.{any, first, unless};
 ghost use Rattle.plan.specs.Rules.{broken_unless};
 ghost use Rattle.plan.specs.declared.refusal.Refusal.TheVariants.{FrameShared};
-ghost use Rattle.checker.specs.Sharing.{lent_refusal, named_at};
+ghost use Rattle.checker.specs.Sharing.{lent_refusal, referenced_at};
 ghost use Rattle.checker.specs.Tables.{table_refusal};
 ghost use Rattle.checker.specs.Scaffold.{Gathers, Joined, clash_claims, cleared, missing_mark};
 
@@ -19,7 +19,7 @@ use words::frames::is_lent;
 // What all partitions name, and the refusal of the first that shares a frame.
 #[derive(Clone, Copy)]
 pub(crate) struct Naming {
-    named: Marks,
+    referenced: Marks,
     shared: Option<Refusal>,
 }
 
@@ -44,12 +44,12 @@ impl Naming {
             earlier.add(&own);
         }
         Ok(Naming {
-            named: earlier.named,
+            referenced: earlier.referenced,
             shared,
         })
     }
 
-    // Whether every frame that a partition names is its own, and none a kernel frame.
+    // Whether every frame that a partition references is its own, and none a page-table frame.
     pub(crate) fn check_shared(&self) -> Result<(), Refusal>
         ensures { result ≡ unless self.now.shared tt }
     {
@@ -57,14 +57,14 @@ impl Naming {
     }
 
     fn has_missing(&self, words: &[u32]) -> bool
-        ensures { result ≡ any (missing_mark words.now self.now.named) 256 }
+        ensures { result ≡ any (missing_mark words.now self.now.referenced) 256 }
     {
-        (0..MOST_FRAMES).any(|f| self.named.has(f) && !is_lent(words, f))
+        (0..MOST_FRAMES).any(|f| self.referenced.has(f) && !is_lent(words, f))
     }
 
-    // Whether every frame that a partition names is lent.
+    // Whether every frame that a partition references is lent.
     pub(crate) fn check_lent(&self, words: &[u32], plan: &Plan) -> Result<(), Refusal>
-        requires { Joined (named_at words.now plan.now) self.now.named plan.now.counts.partitions }
+        requires { Joined (referenced_at words.now plan.now) self.now.referenced plan.now.counts.partitions }
         ensures { result ≡ unless (lent_refusal words.now plan.now) tt }
     {
         if self.has_missing(words) {

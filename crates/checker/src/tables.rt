@@ -2,9 +2,9 @@
 // Root and tables are read once for a partition, and what it claims is gathered on the way.
 // Words and plan, or words and root, are two parameters, as lib.rt says.
 ghost use Rattle.std.specs.Prelude.{◌≡◌, ◌||◌, ◌==◌, false, Ok, IfOk};
-ghost use Rattle.words.specs.First.{first, unless};
+ghost use Rattle.ranges.specs.Questions.{first, unless};
 ghost use Rattle.checker.specs.Lawful.{root};
-ghost use Rattle.checker.specs.Marks.{names_in, points};
+ghost use Rattle.checker.specs.Marks.{references_in, points};
 ghost use Rattle.checker.specs.Tables.{bad_leaf, bad_table, entry_fault, entry_fault_at, root_fault, table_fault, table_refusal};
 ghost use Rattle.checker.specs.Scaffold.{Claimed, Gathered, Shows, cleared, marked};
 
@@ -13,7 +13,7 @@ use crate::fault::{Fault, check_frame};
 use crate::marks::Marks;
 use crate::roots::root;
 use paging::entry::Entry;
-use paging::walk::{ENTRIES, MOST_FRAMES};
+use paging::walk::{MOST_FRAMES, TABLE_ENTRIES};
 use plan::model::Plan;
 use plan::refusal::Refusal;
 use words::frames::{is_lent, read};
@@ -24,29 +24,29 @@ fn is_bad(entry: Entry) -> bool
     entry.is_valid() && !(entry.is_leaf() && entry.frame() < MOST_FRAMES)
 }
 
-// Whether a table is at fault; if not, what it names is marked.
+// Whether a table is at fault; if not, what it references is marked.
 // Here and below a loop and no chain: a proof knows nothing of what a chain's closure changes.
-fn is_bad_table(words: &[u32], table: u32, named: &mut Marks) -> bool
+fn is_bad_table(words: &[u32], table: u32, referenced: &mut Marks) -> bool
     ensures value { result ≡ bad_table words.now table }
-    ensures named { result ≡ false → Shows named.new (λ f. marked named.old f || names_in words.now table f) }
+    ensures referenced { result ≡ false → Shows referenced.new (λ f. marked referenced.old f || references_in words.now table f) }
 {
-    for k in 0..ENTRIES {
+    for k in 0..TABLE_ENTRIES {
         let entry = Entry(read(words, table, k));
         if is_bad(entry) {
             return true;
         }
-        named.mark_named(entry);
+        referenced.mark_referenced(entry);
     }
     false
 }
 
 #[tactic(auto, unfolding(crate::specs::Tables::table_fault))]
-fn check_table(words: &[u32], table: u32, named: &mut Marks) -> Result<(), Fault>
+fn check_table(words: &[u32], table: u32, referenced: &mut Marks) -> Result<(), Fault>
     ensures value { result ≡ unless (table_fault words.now table) tt }
-    ensures named { result ≡ Ok tt → Shows named.new (λ f. marked named.old f || names_in words.now table f) }
+    ensures referenced { result ≡ Ok tt → Shows referenced.new (λ f. marked referenced.old f || references_in words.now table f) }
 {
     check_frame(words, table)?;
-    if is_bad_table(words, table, named) {
+    if is_bad_table(words, table, referenced) {
         return Err(Fault::Broken);
     }
     Ok(())
@@ -57,13 +57,13 @@ fn check_unless_known(words: &[u32], table: u32, claims: &mut Claims) -> Result<
     requires { Gathered words.now claims.old }
     ensures value { result ≡ unless (table_fault words.now table) tt }
     ensures gathered { result ≡ Ok tt → Gathered words.now claims.new }
-    ensures kernel { result ≡ Ok tt → Shows claims.new.kernel (λ f. marked claims.old.kernel f || table == f) }
+    ensures page_tables { result ≡ Ok tt → Shows claims.new.page_tables (λ f. marked claims.old.page_tables f || table == f) }
 {
-    if claims.kernel.has(table) {
+    if claims.page_tables.has(table) {
         return Ok(());
     }
-    check_table(words, table, &mut claims.named)?;
-    claims.kernel.mark(table);
+    check_table(words, table, &mut claims.referenced)?;
+    claims.page_tables.mark(table);
     Ok(())
 }
 
@@ -72,7 +72,7 @@ fn check_entry(words: &[u32], root: u32, k: u32, claims: &mut Claims) -> Result<
     requires { Gathered words.now claims.old }
     ensures value { result ≡ unless (entry_fault_at words.now root k) tt }
     ensures gathered { result ≡ Ok tt → Gathered words.now claims.new }
-    ensures kernel { result ≡ Ok tt → Shows claims.new.kernel (λ f. marked claims.old.kernel f || points words.now root f k) }
+    ensures page_tables { result ≡ Ok tt → Shows claims.new.page_tables (λ f. marked claims.old.page_tables f || points words.now root f k) }
 {
     let entry = Entry(read(words, root, k));
     if !entry.is_valid() {
@@ -90,10 +90,10 @@ fn check_entries(words: &[u32], root: u32) -> Result<Claims, Fault>
     ensures claims { IfOk result (Claimed words.now root) }
 {
     let mut claims = Claims::NONE;
-    for k in 0..ENTRIES {
+    for k in 0..TABLE_ENTRIES {
         check_entry(words, root, k, &mut claims)?;
     }
-    claims.kernel.mark(root);
+    claims.page_tables.mark(root);
     Ok(claims)
 }
 

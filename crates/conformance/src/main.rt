@@ -40,11 +40,11 @@ fn main(rt: HostRuntime) -> ExitCode {
 }
 
 fn run(rt: &HostRuntime) -> Result<(), Problem> {
-    let words = arguments(rt)?;
-    if PROGRAM.introduces(rt, &words)? {
+    let line = arguments(rt)?;
+    if PROGRAM.introduces(rt, &line)? {
         return Ok(());
     }
-    at_most(&words, 0)?;
+    at_most(&line, 0)?;
     let mut suite = Suite::new(rt);
     for operation in &OPERATIONS {
         run_rows(&mut suite, operation)?;

@@ -1,3 +1,3 @@
 -- The definitions of this crate.
-pub mod Words
+pub mod Line
 pub mod Slots

@@ -2,7 +2,7 @@
 use Rattle.std.specs.Prelude.{◌≡◌, ◌≢◌, ℕ, ◌+◌, ◌≤◌, ◌⊎◌, ◌-◌, ◌^◌, List, length, true, false, string_bytes, codes, String, Result, Ok, Err, IfErr}
 use Rattle.std.specs.Str.Parse.{ParsesUnsigned}
 use Rattle.std.specs.declared.alloc.Global.{Global}
-use Rattle.console.specs.Words.{IsNoCount, IsNoNumber, IsOptionAt, IsWordAt, is_option}
+use Rattle.console.specs.Line.{IsNoCount, IsNoNumber, IsOptionAt, IsWordAt, is_option}
 use Rattle.console.specs.declared.problem.Problem.{Problem}
 use Rattle.console.specs.declared.problem.Problem.TheVariants.{MissingArgument, UnexpectedOption, NoMemory}
 use Rattle.console.specs.declared.slots.Slots.{Slots}
@@ -11,13 +11,13 @@ use Rattle.console.specs.declared.slots.Slots.TheVariants.{File, Number}
 -- the file or the number that stands at a place, or the word that is missing there, or the option that is no file's name, or that no memory is left to
 -- tell of it
 abbrev pub IsNamed : List (String Global) → ℕ → Result Slots Problem → Type 0
-IsNamed words at (Ok (File path)) = IsWordAt words at path.now × (is_option path.now ≡ false)
-IsNamed words at (Ok (Number text)) = IsWordAt words at (codes "--slots") × IsWordAt words (at + 1) text.now
-IsNamed words at (Err (MissingArgument name)) =
-    ((length words ≤ at) × (name.now ≡ codes "SLOTS")) ⊎ ((length words ≡ at + 1) × IsWordAt words at (codes "--slots") × (name.now ≡ codes "N"))
-IsNamed words at (Err (UnexpectedOption text)) = IsWordAt words at (string_bytes text) × (string_bytes text ≢ codes "--slots") × (is_option (string_bytes text) ≡ true)
-IsNamed words at (Err (NoMemory e)) = IsOptionAt words at × (IsWordAt words at (codes "--slots") → ⊥)
-IsNamed words at (Err _) = ⊥
+IsNamed line at (Ok (File path)) = IsWordAt line at path.now × (is_option path.now ≡ false)
+IsNamed line at (Ok (Number text)) = IsWordAt line at (codes "--slots") × IsWordAt line (at + 1) text.now
+IsNamed line at (Err (MissingArgument name)) =
+    ((length line ≤ at) × (name.now ≡ codes "SLOTS")) ⊎ ((length line ≡ at + 1) × IsWordAt line at (codes "--slots") × (name.now ≡ codes "N"))
+IsNamed line at (Err (UnexpectedOption text)) = IsWordAt line at (string_bytes text) × (string_bytes text ≢ codes "--slots") × (is_option (string_bytes text) ≡ true)
+IsNamed line at (Err (NoMemory e)) = IsOptionAt line at × (IsWordAt line at (codes "--slots") → ⊥)
+IsNamed line at (Err _) = ⊥
 
 -- the words that name it
 abbrev pub width : Slots → ℕ

@@ -1,6 +1,6 @@
 // Files of a bounded size.
 ghost use Rattle.std.specs.Prelude.{◌≤◌, ◌⊎◌, IfErr, IfOk, vec_len};
-ghost use Rattle.console.specs.Words.{IsUnreadable};
+ghost use Rattle.console.specs.Line.{IsUnreadable};
 ghost use Rattle.image.specs.Frames.{longest as longest_image};
 ghost use Rattle.plan.specs.Format.{longest as longest_plan};
 

@@ -1,7 +1,7 @@
 // Why a program ends without doing its job, and the one line that says so.
 ghost use Rattle.std.specs.Prelude.{◌≡◌, IfOk, is_ok, if◌then◌else◌};
 ghost use Rattle.std.specs.Process.{exit_status};
-ghost use Rattle.console.specs.Words.{AsksOfItself, is_of_usage};
+ghost use Rattle.console.specs.Line.{AsksOfItself, is_of_usage};
 
 use crate::arguments::is_word;
 use plan::refusal::Refusal;
@@ -71,14 +71,14 @@ impl Problem {
 
 impl Program {
     // Says how the program is called and what it does, or its version, if the first word asks for it; and whether it does.
-    pub fn introduces(self, rt: &HostRuntime, words: &[String]) -> io::Result<bool>
-        ensures { IfOk result (AsksOfItself words.now) }
+    pub fn introduces(self, rt: &HostRuntime, line: &[String]) -> io::Result<bool>
+        ensures { IfOk result (AsksOfItself line.now) }
     {
-        if is_word(words, 0, "--help") {
+        if is_word(line, 0, "--help") {
             println!(rt; "usage: {}\n\n{}{OPTIONS}", self.usage, self.about)?;
             return Ok(true);
         }
-        if is_word(words, 0, "--version") {
+        if is_word(line, 0, "--version") {
             println!(rt; "{} {VERSION}", self.name)?;
             return Ok(true);
         }

@@ -2,7 +2,7 @@
 ghost use Rattle.std.specs.Prelude.{◌≡◌, IfErr, length, Some, None, nat_eq, if◌then◌else◌};
 ghost use Rattle.words.specs.Bytes.{number};
 ghost use Rattle.console.specs.Slots.{Counts, IsNamed, width};
-ghost use Rattle.console.specs.Words.{IsNoCount};
+ghost use Rattle.console.specs.Line.{IsNoCount};
 
 use crate::arguments::{argument, file_name, is_word, not_number};
 use crate::files::read_up_to;
@@ -19,13 +19,13 @@ pub enum Slots<'a> {
 
 impl<'a> Slots<'a> {
     // The one that the words name from this place on.
-    pub fn named(words: &'a [String], at: usize) -> Result<Slots<'a>, Problem>
-        ensures { IsNamed words.now at result }
+    pub fn named(line: &'a [String], at: usize) -> Result<Slots<'a>, Problem>
+        ensures { IsNamed line.now at result }
     {
-        if is_word(words, at, "--slots") {
-            return Ok(Slots::Number(argument(words, at + 1, "N")?));
+        if is_word(line, at, "--slots") {
+            return Ok(Slots::Number(argument(line, at + 1, "N")?));
         }
-        Ok(Slots::File(file_name(words, at, "SLOTS")?))
+        Ok(Slots::File(file_name(line, at, "SLOTS")?))
     }
 
     // So many words name it.

@@ -42,26 +42,26 @@ parts w s c value =
     }
 
 -- a field below a place, one from a place on, and one between two places
-field_below : (w v place low count : ℕ) → w % 2 ^ place ≡ v % 2 ^ place → low + count ≤ place → field w low count ≡ field v low count
-field_below w v place low count e l =
-    let less = place - (count + low) in
-    let whole : less + (count + low) ≡ place = omega arith in
-    let front : (n : ℕ) → n % 2 ^ place % 2 ^ (count + low) ≡ n % 2 ^ (count + low) =
+field_below : (w v physical low count : ℕ) → w % 2 ^ physical ≡ v % 2 ^ physical → low + count ≤ physical → field w low count ≡ field v low count
+field_below w v physical low count e l =
+    let less = physical - (count + low) in
+    let whole : less + (count + low) ≡ physical = omega arith in
+    let front : (n : ℕ) → n % 2 ^ physical % 2 ^ (count + low) ≡ n % 2 ^ (count + low) =
     λ n. subst (λ p. n % 2 ^ p % 2 ^ (count + low) ≡ n % 2 ^ (count + low)) whole (mod-mod-pow n less (count + low)) in
     let same : w % 2 ^ (count + low) ≡ v % 2 ^ (count + low) = sym (front w) ∙ ap (λ n. n % 2 ^ (count + low)) e ∙ front v in
     sym (field_of w count low) ∙ ap (λ n. n / 2 ^ low) same ∙ field_of v count low
 
-shifted : (w place low : ℕ) → place ≤ low → w / 2 ^ place / 2 ^ (low - place) ≡ w / 2 ^ low
-shifted w place low l = let whole : place + (low - place) ≡ low = omega arith in shr-shr w place (low - place) ∙ ap (λ p. w / 2 ^ p) whole
+shifted : (w physical low : ℕ) → physical ≤ low → w / 2 ^ physical / 2 ^ (low - physical) ≡ w / 2 ^ low
+shifted w physical low l = let whole : physical + (low - physical) ≡ low = omega arith in shr-shr w physical (low - physical) ∙ ap (λ p. w / 2 ^ p) whole
 
-field_above : (w v place low count : ℕ) → w / 2 ^ place ≡ v / 2 ^ place → place ≤ low → field w low count ≡ field v low count
-field_above w v place low count e l =
-    ap (λ n. n % 2 ^ count) (sym (shifted w place low l) ∙ ap (λ n. n / 2 ^ (low - place)) e ∙ shifted v place low l)
+field_above : (w v physical low count : ℕ) → w / 2 ^ physical ≡ v / 2 ^ physical → physical ≤ low → field w low count ≡ field v low count
+field_above w v physical low count e l =
+    ap (λ n. n % 2 ^ count) (sym (shifted w physical low l) ∙ ap (λ n. n / 2 ^ (low - physical)) e ∙ shifted v physical low l)
 
-field_between : (w v place size low count : ℕ) → w / 2 ^ place % 2 ^ size ≡ v % 2 ^ size → place ≤ low → low + count ≤ place + size →
-    field w low count ≡ field v (low - place) count
-field_between w v place size low count e l m =
-    ap (λ n. n % 2 ^ count) (sym (shifted w place low l)) ∙ field_below (w / 2 ^ place) v size (low - place) count e (omega arith)
+field_between : (w v physical size low count : ℕ) → w / 2 ^ physical % 2 ^ size ≡ v % 2 ^ size → physical ≤ low → low + count ≤ physical + size →
+    field w low count ≡ field v (low - physical) count
+field_between w v physical size low count e l m =
+    ap (λ n. n % 2 ^ count) (sym (shifted w physical low l)) ∙ field_below (w / 2 ^ physical) v size (low - physical) count e (omega arith)
 
 -- a word with `count` bytes from byte `at` on replaced
 module _ (word value at count : ℕ) where
@@ -72,8 +72,8 @@ module _ (word value at count : ℕ) where
   there k l m =
       let p = parts word (8 * at) (8 * count) value in
       let middle : put_in / 2 ^ (8 * at) % 2 ^ (8 * count) ≡ value % 2 ^ (8 * count) = p.middle ∙ ap (λ n. n % 2 ^ (8 * count)) (div-one value) in
-      let place : 8 * k - 8 * at ≡ 8 * (k - at) = omega arith in
-      field_between put_in value (8 * at) (8 * count) (8 * k) 8 middle (omega arith) (omega arith) ∙ ap (λ low. field value low 8) place
+      let physical : 8 * k - 8 * at ≡ 8 * (k - at) = omega arith in
+      field_between put_in value (8 * at) (8 * count) (8 * k) 8 middle (omega arith) (omega arith) ∙ ap (λ low. field value low 8) physical
 
   below : (k : ℕ) → k < at → byte_of put_in k ≡ byte_of word k
   below k l = field_below put_in word (8 * at) (8 * k) 8 (parts word (8 * at) (8 * count) value).low (omega arith)
@@ -95,8 +95,8 @@ stores_bytes StoreWidth.Byte address word value aligned =
     }
 stores_bytes StoreWidth.Half address word value aligned =
     let at = address % 4 in
-    let place : 8 * at ≡ 16 * (address / 2 % 2) = omega arith in
-    let moved : replaced word (8 * at) 16 value ≡ stored StoreWidth.Half word address value = ap (λ shift. replaced word shift 16 value) place in
+    let physical : 8 * at ≡ 16 * (address / 2 % 2) = omega arith in
+    let moved : replaced word (8 * at) 16 value ≡ stored StoreWidth.Half word address value = ap (λ shift. replaced word shift 16 value) physical in
     let same : (k : ℕ) → byte_of (stored StoreWidth.Half word address value) k ≡ byte_of (replaced word (8 * at) 16 value) k = λ k. ap (λ n. byte_of n k) (sym moved) in
     record {
       there = λ k l m. same k ∙ there word value at 2 k l m;
@@ -105,7 +105,7 @@ stores_bytes StoreWidth.Half address word value aligned =
       fits = λ w _. subst (λ n. n < 2 ^ 32) moved (fits word value at 2 (omega arith) w);
     }
 stores_bytes StoreWidth.Word address word value aligned = record {
-  there = λ k l m. (let place : k ≡ k - address % 4 = omega arith in ap (byte_of value) place);
+  there = λ k l m. (let physical : k ≡ k - address % 4 = omega arith in ap (byte_of value) physical);
   below = λ k l. absurd (omega arith);
   above = λ k l m. absurd (omega arith);
   fits = λ _ v. v;
@@ -113,12 +113,12 @@ stores_bytes StoreWidth.Word address word value aligned = record {
 
 -- two fields side by side
 next_to : (w k : ℕ) → field w (8 * k) 16 ≡ two_bytes w k
-next_to w k = let place : 8 * k + 8 ≡ 8 * (k + 1) = omega arith in fields_join w (8 * k) 8 8 ∙ ap (λ low. byte_of w k + 2 ^ 8 * field w low 8) place
+next_to w k = let physical : 8 * k + 8 ≡ 8 * (k + 1) = omega arith in fields_join w (8 * k) 8 8 ∙ ap (λ low. byte_of w k + 2 ^ 8 * field w low 8) physical
 
 all_four : (w k : ℕ) → field w (8 * k) 32 ≡ four_bytes w k
 all_four w k =
-    let place : 8 * k + 16 ≡ 8 * (k + 2) = omega arith in
-    fields_join w (8 * k) 16 16 ∙ ap (λ low. field w (8 * k) 16 + 2 ^ 16 * field w low 16) place ∙
+    let physical : 8 * k + 16 ≡ 8 * (k + 2) = omega arith in
+    fields_join w (8 * k) 16 16 ∙ ap (λ low. field w (8 * k) 16 + 2 ^ 16 * field w low 16) physical ∙
     ap (λ n. n + 2 ^ 16 * field w (8 * (k + 2)) 16) (next_to w k) ∙ ap (λ n. two_bytes w k + 2 ^ 16 * n) (next_to w (k + 2))
 
 signed_8 : (n : ℕ) → signed 32 (remainder 32 (signed 8 n)) ≡ signed 8 n

@@ -4,7 +4,7 @@ use Rattle.words.specs.Frames.{word}
 use Rattle.isa.specs.Decoding.{decoded}
 use Rattle.paging.specs.declared.access.Access.{Access}
 use Rattle.paging.specs.declared.access.Access.TheVariants.{Fetch}
-use Rattle.paging.specs.declared.place.Place.{Place}
+use Rattle.paging.specs.declared.physical.PhysicalAddress.{PhysicalAddress}
 use Rattle.hart.specs.declared.cause.Cause.{Cause}
 use Rattle.hart.specs.declared.context.State.{State}
 use Rattle.hart.specs.declared.context.State.TheVariants.{Ready, Stopped}
@@ -24,7 +24,7 @@ by_aligned P false o found misaligned some none other = other refl
 
 module _ (P : Step → Type 0) (core : Core) (ws : List ℕ) where
   -- an access: its address is aligned and a frame is found, or none is; or its address is misaligned
-  pub access_cases : (access : Access) (bytes address : ℕ) (at : Place → Outcome) →
+  pub access_cases : (access : Access) (bytes address : ℕ) (at : PhysicalAddress → Outcome) →
       ((frame : ℕ) → is_aligned bytes address ≡ true → (looked_up core ws address access).frame ≡ Some frame →
       P (access_found (after_lookup core ws address access) ws access address at (looked_up core ws address access).walked (Some frame))) →
       (is_aligned bytes address ≡ true → (looked_up core ws address access).frame ≡ None →

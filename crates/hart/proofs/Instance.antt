@@ -6,7 +6,7 @@ use Rattle.words.specs.Frames.{word}
 use Rattle.paging.specs.declared.leaf.Leaf.{Leaf}
 use Rattle.paging.specs.Entries.{flag, frame_of, is_valid}
 use Rattle.paging.specs.Mapping.{LeafEntry, Maps, Pointer}
-use Rattle.paging.specs.Tables.{KernelFrame, Names, PointsTo}
+use Rattle.paging.specs.Tables.{PageTableFrame, References, PointsTo}
 use Rattle.hart.specs.Laws.{SameOwn, TablesApart}
 use Rattle.paging.specs.Small.{mapped_in, with_page}
 use Rattle.hart.specs.Example.{Example, five_frames}
@@ -24,7 +24,7 @@ abbrev four_words : List ℕ
 four_words = with_page (mapped_in 5120) 18 0x10D5
 
 module _ (c : ℕ) where
-  -- the words that are not named above are 0
+  -- the words that are not referenced above are 0
   blank : (i : ℕ) → i < 4096 → i ≢ 0 → i ≢ 1040 → i ≢ 1041 → i ≢ 1042 → get_or (five_frames c) i 0 ≡ 0
   blank i l a b d e =
       let f : i ≢ 4096 = omega arith in
@@ -47,7 +47,7 @@ module _ (c : ℕ) where
     | inr ne ↦ absurd (not_valid (subst (λ w. is_valid w ≡ true) (root_blank at l ne) p.valid))
   ]
 
-  kernel_only : (frame : ℕ) → KernelFrame (five_frames c) 0 frame → frame ≤ 1
+  kernel_only : (frame : ℕ) → PageTableFrame (five_frames c) 0 frame → frame ≤ 1
   kernel_only frame (inl e) = omega arith
   kernel_only frame (inr p) = let e = table_only p.at frame p.within p.points in omega arith
 
@@ -69,11 +69,11 @@ module _ (c : ℕ) where
   frame_from k frame (inr (inl e)) n = let z : 3 ≡ frame = subst (λ i. frame_of (word (five_frames c) 1 i) ≡ frame) e n in omega arith
   frame_from k frame (inr (inr e)) n = let z : 4 ≡ frame = subst (λ i. frame_of (word (five_frames c) 1 i) ≡ frame) e n in omega arith
 
-  named_from : (frame : ℕ) → Names (five_frames c) 0 frame → 2 ≤ frame
+  named_from : (frame : ℕ) → References (five_frames c) 0 frame → 2 ≤ frame
   named_from frame n =
       let t = table_only n.by.at n.table n.by.within n.by.points in
       frame_from n.at frame (valid_at n.at n.within (subst (λ x. is_valid (word (five_frames c) x n.at) ≡ true) t n.valid))
-      (subst (λ x. frame_of (word (five_frames c) x n.at) ≡ frame) t n.names)
+      (subst (λ x. frame_of (word (five_frames c) x n.at) ≡ frame) t n.references)
 
   leaf_below : (k : ℕ) (leaf : Leaf) → (k ≡ 16) ⊎ ((k ≡ 17) ⊎ (k ≡ 18)) → LeafEntry (word (five_frames c) 1 k) leaf → leaf.frame ≤ 3
   leaf_below k leaf (inl e) m = let z : 2 ≡ leaf.frame = (subst (λ i. LeafEntry (word (five_frames c) 1 i) leaf) e m).frame in omega arith
@@ -87,7 +87,7 @@ module _ (c : ℕ) where
       leaf_below m.low leaf (valid_at m.low m.low_below leads.valid) leads
 
   tables_apart : TablesApart (five_frames c) 0
-  tables_apart frame names kernel = let a = named_from frame names in let b = kernel_only frame kernel in omega arith
+  tables_apart frame references kernel = let a = named_from frame references in let b = kernel_only frame kernel in omega arith
 
   points : PointsTo (five_frames c) 0 1
   unfolding flag
@@ -97,9 +97,9 @@ module _ (c : ℕ) where
     points = record { valid = refl; not_readable = refl; not_writable = refl; not_executable = refl; frame = refl };
   }
 
-  names_fourth : Names (five_frames c) 0 4
+  names_fourth : References (five_frames c) 0 4
   unfolding flag
-  names_fourth = record { table = 1; by = points; at = 18; within = omega arith; valid = refl; names = refl }
+  names_fourth = record { table = 1; by = points; at = 18; within = omega arith; valid = refl; references = refl }
 
 module _ (here there : ℕ) where
   -- the memories differ in one word of frame 4
@@ -118,4 +118,4 @@ module _ (here there : ℕ) where
   }
 
 pub example : Example
-example = record { apart = tables_apart; named = names_fourth; same = same_own }
+example = record { apart = tables_apart; referenced = names_fourth; same = same_own }

@@ -7,7 +7,7 @@ pub mod Agreeing
 pub mod Own
 pub mod Stepping
 pub mod Using
-pub mod Honesty
+pub mod Coherence
 pub mod Writing
 pub mod Staying
 pub mod Running

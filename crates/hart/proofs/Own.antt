@@ -10,13 +10,13 @@ use Rattle.isa.specs.Effects.{Effect, sets, jumps, branches, loads, stores, effe
 use Rattle.paging.specs.declared.access.Access.{Access}
 use Rattle.paging.specs.declared.access.Access.TheVariants.{Fetch, Load, Store}
 use Rattle.paging.specs.declared.leaf.Leaf.{Leaf}
-use Rattle.paging.specs.declared.place.Place.{Place}
-use Rattle.paging.specs.Accesses.{place_in}
+use Rattle.paging.specs.declared.physical.PhysicalAddress.{PhysicalAddress}
+use Rattle.paging.specs.Accesses.{physical_in}
 use Rattle.paging.specs.Mapping.{Maps, Reaches}
 use Rattle.paging.specs.Walks.{walked}
 use Rattle.paging.proofs.Agree.{leaves_named, tables_decide}
-use Rattle.tables.specs.Honest.{Honest}
-use Rattle.tables.proofs.Truth.{honesty}
+use Rattle.tables.specs.Coherent.{Coherent}
+use Rattle.tables.proofs.Truth.{coherence}
 use Rattle.hart.specs.declared.context.State.{State}
 use Rattle.hart.specs.declared.context.State.TheVariants.{Ready, Stopped}
 use Rattle.hart.specs.declared.step.Core.{Core}
@@ -50,9 +50,9 @@ module _ (ws vs : List ℕ) (core : Core) (own : SameOwn ws vs core.root) where
   walks = (tables_decide ws vs core.root own.tables).walks own.lent
 
   -- the word at an address that an access reaches
-  same_reached : (address : ℕ) (access : Access) (place : Place) → Reaches ws core.root address access place →
-      word vs place.frame (address % 4096 / 4) ≡ word ws place.frame (address % 4096 / 4)
-  same_reached address access place r = rw r.frame (own.mapped r.page (address % 4096 / 4) r.leaf r.maps (omega arith))
+  same_reached : (address : ℕ) (access : Access) (physical : PhysicalAddress) → Reaches ws core.root address access physical →
+      word vs physical.frame (address % 4096 / 4) ≡ word ws physical.frame (address % 4096 / 4)
+  same_reached address access physical r = rw r.frame (own.mapped r.page (address % 4096 / 4) r.leaf r.maps (omega arith))
 
   -- the same write to a frame that a page maps to
   same_written : (page offset value : ℕ) (leaf : Leaf) → Maps ws core.root page leaf → offset < 1024 →
@@ -67,11 +67,11 @@ module _ (ws vs : List ℕ) (core : Core) (own : SameOwn ws vs core.root) where
         | inr ne ↦ get_or-set_other vs (at * 1024 + offset) (frame * 1024 + k) value 0 ne ∙ e ∙ sym (get_or-set_other ws (at * 1024 + offset) (frame * 1024 + k) value 0 ne)
       ]
 
-  module _ (h : Honest core.tables.tlb ws core.root) where
+  module _ (h : Coherent core.tables.tlb ws core.root) where
     -- an access that comes to the same at each place that it reaches
-    access_alike : (access : Access) (bytes address : ℕ) (there here : Place → Outcome) →
-        ((frame : ℕ) → Reaches ws core.root address access (place_in frame address) →
-        AlikeOutcome ws vs (there (place_in frame address)) (here (place_in frame address))) →
+    access_alike : (access : Access) (bytes address : ℕ) (there here : PhysicalAddress → Outcome) →
+        ((frame : ℕ) → Reaches ws core.root address access (physical_in frame address) →
+        AlikeOutcome ws vs (there (physical_in frame address)) (here (physical_in frame address))) →
         Alike ws vs (data_access core vs access bytes address there) (data_access core ws access bytes address here)
     unfolding data_access
     access_alike access bytes address there here same =
@@ -99,14 +99,14 @@ module _ (ws vs : List ℕ) (core : Core) (own : SameOwn ws vs core.root) where
     instruction_alike None = record { core = refl; used = refl; words = same_words ws vs }
     instruction_alike (Some i) = executed_alike (effect_of i core.context.registers core.context.pc core.clock)
 
-module _ (ws vs : List ℕ) (core : Core) (own : SameOwn ws vs core.root) (h : Honest core.tables.tlb ws core.root) where
+module _ (ws vs : List ℕ) (core : Core) (own : SameOwn ws vs core.root) (h : Coherent core.tables.tlb ws core.root) where
   fetch_alike : Alike ws vs (fetch_step core vs) (fetch_step core ws)
   unfolding fetch_step word_step
   fetch_alike = fetch_cases (Alike ws vs (fetch_step core vs)) core ws
       (λ e. rw (walks ws vs core own (core.context.pc / 4096), e) (record { core = refl; used = refl; words = same_words ws vs }))
       (λ frame e.
       let r = found_reaches core ws core.tables h core.context.pc Fetch frame e in
-      let later = (honesty.find core.tables.tlb ws core.root (core.context.pc / 4096) Fetch h).still in
+      let later = (coherence.find core.tables.tlb ws core.root (core.context.pc / 4096) Fetch h).still in
       let rest = instruction_alike ws vs (after_lookup core ws core.context.pc Fetch) own later (decoded (word ws frame (core.context.pc % 4096 / 4))) in
       rw (walks ws vs core own (core.context.pc / 4096), e, same_reached ws vs core own core.context.pc Fetch _ r)
       (record { core = rest.core; used = rw rest.used refl; words = rest.words }))

@@ -6,7 +6,7 @@ use Rattle.paging.specs.Mapping.{Maps}
 use Rattle.paging.specs.Tables.{SameTables}
 use Rattle.paging.proofs.Agree.{kernel_there, names_there, owns_there, tables_back, tables_decide}
 use Rattle.paging.proofs.Found.{maps_walk, walk_maps}
-use Rattle.tables.specs.Honest.{Honest}
+use Rattle.tables.specs.Coherent.{Coherent}
 use Rattle.hart.specs.declared.step.Core.{Core}
 use Rattle.hart.specs.Core.{stepped}
 use Rattle.hart.specs.Laws.{OwnAgain, SameOwn, StaysOwn, TablesApart}
@@ -18,12 +18,12 @@ use Rattle.hart.proofs.Writing.{writes_own}
 pub lent_step : (core : Core) (ws : List ℕ) (frame : ℕ) → lent (stepped core ws).words frame ≡ lent ws frame
 lent_step core ws frame = ap (λ n. ltb frame (n / 1024)) (steps core ws).as_many
 
-module _ (core : Core) (ws : List ℕ) (apart : TablesApart ws core.root) (h : Honest core.tables.tlb ws core.root) where
+module _ (core : Core) (ws : List ℕ) (apart : TablesApart ws core.root) (h : Coherent core.tables.tlb ws core.root) where
   abbrev after : List ℕ
   after = (stepped core ws).words
 
   pub same_tables : SameTables ws after core.root
-  same_tables frame k kernel l = (writes_own core ws h).others frame k (λ names. apart frame names kernel) l
+  same_tables frame k kernel l = (writes_own core ws h).others frame k (λ references. apart frame references kernel) l
 
   back : SameTables after ws core.root
   back = tables_back ws after core.root same_tables
@@ -45,7 +45,7 @@ module _ (core : Core) (ws : List ℕ) (apart : TablesApart ws core.root) (h : H
   stays : OwnAgain core ws
   stays = record {
     tables = same_tables;
-    apart = λ frame names kernel. apart frame (names_there after ws core.root back frame names) (kernel_there after ws core.root back frame kernel);
+    apart = λ frame references kernel. apart frame (names_there after ws core.root back frame references) (kernel_there after ws core.root back frame kernel);
     own = own_again;
   }
 

@@ -16,15 +16,15 @@ use Rattle.isa.specs.Decoding.{decoded}
 use Rattle.isa.specs.Effects.{Effect, sets, jumps, branches, loads, stores, effect_of}
 use Rattle.paging.specs.declared.access.Access.{Access}
 use Rattle.paging.specs.declared.access.Access.TheVariants.{Fetch}
-use Rattle.paging.specs.declared.place.Place.{Place}
-use Rattle.paging.specs.Accesses.{place_in}
+use Rattle.paging.specs.declared.physical.PhysicalAddress.{PhysicalAddress}
+use Rattle.paging.specs.Accesses.{physical_in}
 use Rattle.paging.specs.Walks.{walked}
 use Rattle.tables.specs.declared.tlb.TlbEntry.{TlbEntry}
 use Rattle.tables.specs.Cache.{is_store, line_of}
-use Rattle.tables.specs.Honest.{Honest}
+use Rattle.tables.specs.Coherent.{Coherent}
 use Rattle.tables.proofs.Lines.{whole_accessed, whole_empty}
 use Rattle.tables.proofs.Pages.{whole_used}
-use Rattle.tables.proofs.Truth.{honesty}
+use Rattle.tables.proofs.Truth.{coherence}
 use Rattle.tables.proofs.Turns.{counters_stay}
 use Rattle.hart.specs.declared.cause.Cause.{Cause}
 use Rattle.hart.specs.declared.cause.Cause.TheVariants.{IllegalInstruction, FetchMisaligned, FetchFault}
@@ -90,7 +90,7 @@ record Kept (core : Core) (ws : List ℕ) (s : Step) : Type 0 where
   moves : Moves core.context s.core.context
   whole : WholeTables core.tables → WholeTables s.core.tables
   -- every entry of the TLB is what a walk was before the step
-  honest : Honest core.tables.tlb ws core.root → Honest s.core.tables.tlb ws core.root
+  coherent : Coherent core.tables.tlb ws core.root → Coherent s.core.tables.tlb ws core.root
   -- the predictor was right, or no data was used
   few : (s.used.mispredicted ≡ false) ⊎ NoData s
 
@@ -105,12 +105,12 @@ module _ (core : Core) (ws : List ℕ) where
   lookup_whole address access w = let page = address / 4096 in
       record { cache = w.cache; tlb = whole_used page core.tables.tlb (record { page = page; access = access; walk = walked ws core.root page }) w.tlb; predictor = w.predictor }
 
-  lookup_honest : (address : ℕ) (access : Access) → Honest core.tables.tlb ws core.root → Honest (after_lookup core ws address access).tables.tlb ws core.root
-  lookup_honest address access h = (honesty.find core.tables.tlb ws core.root (address / 4096) access h).still
+  lookup_coherent : (address : ℕ) (access : Access) → Coherent core.tables.tlb ws core.root → Coherent (after_lookup core ws address access).tables.tlb ws core.root
+  lookup_coherent address access h = (coherence.find core.tables.tlb ws core.root (address / 4096) access h).still
 
   goes_here : (x : Context) → x.state ≡ core.context.state → Moves core.context x → Kept core ws (leads_to core ws x)
   goes_here x same moves =
-      record { as_many = refl; root = refl; clock = refl; way = inl same; moves = moves; whole = λ w. w; honest = λ h. h; few = inl refl }
+      record { as_many = refl; root = refl; clock = refl; way = inl same; moves = moves; whole = λ w. w; coherent = λ h. h; few = inl refl }
 
   halts_here : (cause : Cause) → Kept core ws (leads_to core ws (stopped core.context cause))
   halts_here cause = record {
@@ -120,24 +120,24 @@ module _ (core : Core) (ws : List ℕ) where
     way = inr (record { cause = cause; context = refl; words = refl; cache = refl; predictor = refl; no_cache = refl; no_branch = refl });
     moves = stop_moves core.context cause;
     whole = λ w. w;
-    honest = λ h. h;
+    coherent = λ h. h;
     few = inl refl;
   }
 
-  access_kept : (access : Access) (bytes address : ℕ) (at : Place → Outcome) → ((place : Place) → (at place).context.state ≡ core.context.state) →
-      ((place : Place) → Moves core.context (at place).context) → ((place : Place) → length (at place).words ≡ length ws) →
+  access_kept : (access : Access) (bytes address : ℕ) (at : PhysicalAddress → Outcome) → ((physical : PhysicalAddress) → (at physical).context.state ≡ core.context.state) →
+      ((physical : PhysicalAddress) → Moves core.context (at physical).context) → ((physical : PhysicalAddress) → length (at physical).words ≡ length ws) →
       Kept core ws (data_access core ws access bytes address at)
   access_kept access bytes address at same moves long =
       access_cases (Kept core ws) core ws access bytes address at
-      (λ frame _ _. let place = place_in frame address in record {
-        as_many = long place;
+      (λ frame _ _. let physical = physical_in frame address in record {
+        as_many = long physical;
         root = refl;
         clock = refl;
-        way = inl (same place);
-        moves = moves place;
+        way = inl (same physical);
+        moves = moves physical;
         whole = λ w. let v = lookup_whole address access w in
-            record { cache = whole_accessed core.tables.cache (line_of place) (is_store access) v.cache; tlb = v.tlb; predictor = v.predictor };
-        honest = lookup_honest address access;
+            record { cache = whole_accessed core.tables.cache (line_of physical) (is_store access) v.cache; tlb = v.tlb; predictor = v.predictor };
+        coherent = lookup_coherent address access;
         few = inl refl;
       })
       (λ _ _. record {
@@ -147,7 +147,7 @@ module _ (core : Core) (ws : List ℕ) where
         way = inr (record { cause = fault_cause access; context = refl; words = refl; cache = refl; predictor = refl; no_cache = refl; no_branch = refl });
         moves = stop_moves core.context (fault_cause access);
         whole = lookup_whole address access;
-        honest = lookup_honest address access;
+        coherent = lookup_coherent address access;
         few = inl refl;
       })
       (λ _. halts_here (misaligned_cause access))
@@ -168,12 +168,12 @@ module _ (core : Core) (ws : List ℕ) where
       way = inl refl;
       moves = rw e at (branch_moves core.context taken target);
       whole = λ w. record { cache = w.cache; tlb = w.tlb; predictor = counters_stay.next core.tables.predictor core.context.pc taken w.predictor };
-      honest = λ h. h;
+      coherent = λ h. h;
       few = inr (refl, refl);
     })
   ]
-  executed_kept (loads width rd address) = access_kept _ _ address _ (λ place. refl) (λ place. set_moves core.context rd _) (λ place. refl)
-  executed_kept (stores width address value) = access_kept _ _ address _ (λ place. refl) (λ place. next_moves core.context) (λ place. length-set ws _ _)
+  executed_kept (loads width rd address) = access_kept _ _ address _ (λ physical. refl) (λ physical. set_moves core.context rd _) (λ physical. refl)
+  executed_kept (stores width address value) = access_kept _ _ address _ (λ physical. refl) (λ physical. next_moves core.context) (λ physical. length-set ws _ _)
 
   instruction_kept : (o : Option Instruction) → Kept core ws (instruction_step core ws o)
   instruction_kept None = halts_here IllegalInstruction
@@ -190,7 +190,7 @@ module _ (core : Core) (ws : List ℕ) where
         way = inr (record { cause = FetchFault; context = refl; words = refl; cache = refl; predictor = refl; no_cache = refl; no_branch = refl });
         moves = stop_moves core.context FetchFault;
         whole = lookup_whole core ws core.context.pc Fetch;
-        honest = lookup_honest core ws core.context.pc Fetch;
+        coherent = lookup_coherent core ws core.context.pc Fetch;
         few = inl refl;
       })
       (λ frame _.
@@ -205,7 +205,7 @@ module _ (core : Core) (ws : List ℕ) where
         ];
         moves = record { one_register = rest.moves.one_register; counter = rest.moves.counter };
         whole = λ w. rest.whole (lookup_whole core ws core.context.pc Fetch w);
-        honest = λ h. rest.honest (lookup_honest core ws core.context.pc Fetch h);
+        coherent = λ h. rest.coherent (lookup_coherent core ws core.context.pc Fetch h);
         few = rest.few;
       })
 
@@ -259,13 +259,13 @@ stay_whole = record {
   next = λ core ws w. (program_kept core ws).whole w;
 }
 
-pub step_honest : (core : Core) (ws : List ℕ) → Honest core.tables.tlb ws core.root → Honest (stepped core ws).core.tables.tlb ws core.root
+pub step_coherent : (core : Core) (ws : List ℕ) → Coherent core.tables.tlb ws core.root → Coherent (stepped core ws).core.tables.tlb ws core.root
 unfolding stepped
-step_honest core ws = (program_kept core ws).honest
+step_coherent core ws = (program_kept core ws).coherent
 
 -- a fetch is told of by the fetch alone
 module _ (core : Core) (ws : List ℕ) where
-  access_unfetched : (access : Access) (bytes address : ℕ) (at : Place → Outcome) → (data_access core ws access bytes address at).used.fetch_walked ≡ false
+  access_unfetched : (access : Access) (bytes address : ℕ) (at : PhysicalAddress → Outcome) → (data_access core ws access bytes address at).used.fetch_walked ≡ false
   access_unfetched access bytes address at = access_cases (λ s. s.used.fetch_walked ≡ false) core ws access bytes address at (λ _ _ _. refl) (λ _ _. refl) (λ _. refl)
 
   executed_unfetched : (d : Effect) → (executed core ws d).used.fetch_walked ≡ false

@@ -9,7 +9,7 @@ use Rattle.isa.specs.declared.instruction.Instruction.TheVariants.{Lui, Auipc, J
 use Rattle.isa.specs.Decoding.{decoded}
 use Rattle.paging.specs.declared.access.Access.{Access}
 use Rattle.paging.specs.declared.access.Access.TheVariants.{Fetch}
-use Rattle.paging.specs.declared.place.Place.{Place}
+use Rattle.paging.specs.declared.physical.PhysicalAddress.{PhysicalAddress}
 use Rattle.hart.specs.declared.context.State.TheVariants.{Ready}
 use Rattle.hart.specs.declared.context.Context.{Context}
 use Rattle.hart.specs.declared.step.Core.{Core}
@@ -26,7 +26,7 @@ record Leaves (core : Core) (o : Option Instruction) (s : Step) : Type 0 where
   plain : uses_cache o ≡ false → uses_predictor o ≡ false → s.used ≡ plain
 
 module _ (core : Core) (ws : List ℕ) where
-  access_predictor : (access : Access) (bytes address : ℕ) (at : Place → Outcome) → (data_access core ws access bytes address at).core.tables.predictor ≡ core.tables.predictor
+  access_predictor : (access : Access) (bytes address : ℕ) (at : PhysicalAddress → Outcome) → (data_access core ws access bytes address at).core.tables.predictor ≡ core.tables.predictor
   access_predictor access bytes address at =
       access_cases (λ s. s.core.tables.predictor ≡ core.tables.predictor) core ws access bytes address at (λ _ _ _. refl) (λ _ _. refl) (λ _. refl)
 

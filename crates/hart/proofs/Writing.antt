@@ -10,8 +10,8 @@ use Rattle.paging.specs.declared.access.Access.{Access}
 use Rattle.paging.specs.Mapping.{Reaches}
 use Rattle.paging.specs.declared.access.Access.TheVariants.{Fetch, Load, Store}
 use Rattle.paging.specs.Accesses.{PageFault}
-use Rattle.paging.specs.declared.place.Place.{Place}
-use Rattle.paging.specs.Tables.{Names}
+use Rattle.paging.specs.declared.physical.PhysicalAddress.{PhysicalAddress}
+use Rattle.paging.specs.Tables.{References}
 use Rattle.paging.specs.Walks.{translated}
 use Rattle.paging.proofs.Agree.{leaves_named}
 use Rattle.paging.proofs.Reached.{translates}
@@ -26,9 +26,9 @@ use Rattle.hart.specs.Laws.{StoredOwn, WritesOwn}
 use Rattle.hart.proofs.Agreeing.{agreement}
 
 -- a write to a frame that the tables name changes no word elsewhere
-pub stored_elsewhere : (ws vs : List ℕ) (root : ℕ) → StoredOwn ws vs root → (frame k : ℕ) → (Names ws root frame → ⊥) → k < 1024 → word vs frame k ≡ word ws frame k
+pub stored_elsewhere : (ws vs : List ℕ) (root : ℕ) → StoredOwn ws vs root → (frame k : ℕ) → (References ws root frame → ⊥) → k < 1024 → word vs frame k ≡ word ws frame k
 stored_elsewhere ws vs root s frame k foreign l =
-    let other : frame ≡ s.leaf.frame → ⊥ = λ e. foreign (subst (Names ws root) (sym e) (leaves_named ws root s.page s.leaf s.maps)) in
+    let other : frame ≡ s.leaf.frame → ⊥ = λ e. foreign (subst (References ws root) (sym e) (leaves_named ws root s.page s.leaf s.maps)) in
     let apart : frame * 1024 + k ≡ s.leaf.frame * 1024 + s.offset → ⊥ = λ e. other (omega (arith, s.inside)) in
     ap (λ us. word us frame k) s.stored ∙ get_or-set_other ws (s.leaf.frame * 1024 + s.offset) (frame * 1024 + k) s.value 0 apart
 
@@ -37,12 +37,12 @@ Few ws root vs = (vs ≡ ws) ⊎ StoredOwn ws vs root
 
 module _ (core : Core) (ws : List ℕ) where
   -- an access, whose place a page of the root leads to
-  place_few : (access : Access) (address : ℕ) (at : Place → Outcome) → ((place : Place) → Reaches ws core.root address access place → Few ws core.root (at place).words) →
-      (found : Result Place PageFault) → found ≡ translated ws core.root address access → Few ws core.root (place_does core.context ws access at found).words
-  place_few access address at few (Ok place) e = few place ((translates ws core.root address access (Ok place) e).reaches place refl)
+  place_few : (access : Access) (address : ℕ) (at : PhysicalAddress → Outcome) → ((physical : PhysicalAddress) → Reaches ws core.root address access physical → Few ws core.root (at physical).words) →
+      (found : Result PhysicalAddress PageFault) → found ≡ translated ws core.root address access → Few ws core.root (place_does core.context ws access at found).words
+  place_few access address at few (Ok physical) e = few physical ((translates ws core.root address access (Ok physical) e).reaches physical refl)
   place_few access address at few (Err fault) e = inl refl
 
-  access_few : (access : Access) (bytes address : ℕ) (at : Place → Outcome) → ((place : Place) → Reaches ws core.root address access place → Few ws core.root (at place).words) →
+  access_few : (access : Access) (bytes address : ℕ) (at : PhysicalAddress → Outcome) → ((physical : PhysicalAddress) → Reaches ws core.root address access physical → Few ws core.root (at physical).words) →
       Few ws core.root (access_does core ws access bytes address at).words
   access_few access bytes address at few = elim (cases_Bool (is_aligned bytes address)) [
     | inl a ↦ rw a (place_few access address at few (translated ws core.root address access) refl)
@@ -53,25 +53,25 @@ module _ (core : Core) (ws : List ℕ) where
   does_few (sets rd value) = inl refl
   does_few (jumps rd target) = inl refl
   does_few (branches taken target) = inl refl
-  does_few (loads width rd address) = access_few Load _ address (load_at core.context ws width rd address) (λ place r. inl refl)
-  does_few (stores width address value) = access_few Store _ address (store_at core.context ws width address value) (λ place r. inr (record {
+  does_few (loads width rd address) = access_few Load _ address (load_at core.context ws width rd address) (λ physical r. inl refl)
+  does_few (stores width address value) = access_few Store _ address (store_at core.context ws width address value) (λ physical r. inr (record {
     page = r.page;
     leaf = r.leaf;
-    offset = place.offset / 4;
-    value = stored width (word_at ws place) address value;
+    offset = physical.offset / 4;
+    value = stored width (word_at ws physical) address value;
     maps = r.maps;
     readable = r.allows.0;
     writable = r.allows.1;
     inside = omega (arith, r.inside);
-    stored = ap (λ frame. written ws frame (place.offset / 4) (stored width (word_at ws place) address value)) r.frame;
+    stored = ap (λ frame. written ws frame (physical.offset / 4) (stored width (word_at ws physical) address value)) r.frame;
   }))
 
   instruction_few : (o : Option Instruction) → Few ws core.root (instruction_does core ws o).words
   instruction_few None = inl refl
   instruction_few (Some i) = does_few (effect_of i core.context.registers core.context.pc core.clock)
 
-  fetch_few : (found : Result Place PageFault) → Few ws core.root (fetch_does core ws found).words
-  fetch_few (Ok place) = instruction_few (decoded (word_at ws place))
+  fetch_few : (found : Result PhysicalAddress PageFault) → Few ws core.root (fetch_does core ws found).words
+  fetch_few (Ok physical) = instruction_few (decoded (word_at ws physical))
   fetch_few (Err fault) = inl refl
 
   program_few : (s : State) → Few ws core.root (program_does s core ws).words

@@ -10,7 +10,7 @@ use Rattle.isa.specs.Effects.{Effect, sets, jumps, branches, loads, stores, effe
 use Rattle.paging.specs.declared.access.Access.{Access}
 use Rattle.paging.specs.declared.access.Access.TheVariants.{Fetch, Load, Store}
 use Rattle.paging.specs.Accesses.{PageFault}
-use Rattle.paging.specs.declared.place.Place.{Place}
+use Rattle.paging.specs.declared.physical.PhysicalAddress.{PhysicalAddress}
 use Rattle.paging.specs.Walks.{translated}
 use Rattle.hart.specs.declared.cause.Cause.TheVariants.{IllegalInstruction}
 use Rattle.hart.specs.declared.context.State.{State}
@@ -32,23 +32,23 @@ abbrev pub outcome : Context → List ℕ → Outcome
 outcome x ws = record { context = x; words = ws }
 
 -- the word that a place lies in
-abbrev pub word_at : List ℕ → Place → ℕ
-word_at ws place = word ws place.frame (place.offset / 4)
+abbrev pub word_at : List ℕ → PhysicalAddress → ℕ
+word_at ws physical = word ws physical.frame (physical.offset / 4)
 
 -- a load and a store, at the place that the address leads to
-abbrev pub load_at : Context → List ℕ → LoadWidth → Register → ℕ → Place → Outcome
-load_at x ws width rd address place = outcome (register_set x rd (loaded width (word_at ws place) address)) ws
+abbrev pub load_at : Context → List ℕ → LoadWidth → Register → ℕ → PhysicalAddress → Outcome
+load_at x ws width rd address physical = outcome (register_set x rd (loaded width (word_at ws physical) address)) ws
 
-abbrev pub store_at : Context → List ℕ → StoreWidth → ℕ → ℕ → Place → Outcome
-store_at x ws width address value place =
-    outcome (goes_on x (next_pc x)) (written ws place.frame (place.offset / 4) (stored width (word_at ws place) address value))
+abbrev pub store_at : Context → List ℕ → StoreWidth → ℕ → ℕ → PhysicalAddress → Outcome
+store_at x ws width address value physical =
+    outcome (goes_on x (next_pc x)) (written ws physical.frame (physical.offset / 4) (stored width (word_at ws physical) address value))
 
 -- an access to memory, done at its place. It stops the program if its address is not aligned, or leads to none
-abbrev pub place_does : Context → List ℕ → Access → (Place → Outcome) → Result Place PageFault → Outcome
-place_does x ws access at (Ok place) = at place
+abbrev pub place_does : Context → List ℕ → Access → (PhysicalAddress → Outcome) → Result PhysicalAddress PageFault → Outcome
+place_does x ws access at (Ok physical) = at physical
 place_does x ws access at (Err fault) = outcome (stopped x (fault_cause access)) ws
 
-abbrev pub access_does : Core → List ℕ → Access → ℕ → ℕ → (Place → Outcome) → Outcome
+abbrev pub access_does : Core → List ℕ → Access → ℕ → ℕ → (PhysicalAddress → Outcome) → Outcome
 access_does core ws access bytes address at =
     cond (is_aligned bytes address) (place_does core.context ws access at (translated ws core.root address access))
     (outcome (stopped core.context (misaligned_cause access)) ws)
@@ -65,8 +65,8 @@ abbrev pub instruction_does : Core → List ℕ → Option Instruction → Outco
 instruction_does core ws None = outcome (stopped core.context IllegalInstruction) ws
 instruction_does core ws (Some i) = does core ws (effect_of i core.context.registers core.context.pc core.clock)
 
-abbrev pub fetch_does : Core → List ℕ → Result Place PageFault → Outcome
-fetch_does core ws (Ok place) = instruction_does core ws (decoded (word_at ws place))
+abbrev pub fetch_does : Core → List ℕ → Result PhysicalAddress PageFault → Outcome
+fetch_does core ws (Ok physical) = instruction_does core ws (decoded (word_at ws physical))
 fetch_does core ws (Err fault) = outcome (stopped core.context (fault_cause Fetch)) ws
 
 abbrev pub program_does : State → Core → List ℕ → Outcome

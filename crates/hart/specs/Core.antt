@@ -8,8 +8,8 @@ use Rattle.isa.specs.Decoding.{decoded}
 use Rattle.isa.specs.Effects.{Effect, sets, jumps, branches, loads, stores, effect_of}
 use Rattle.paging.specs.declared.access.Access.{Access}
 use Rattle.paging.specs.declared.access.Access.TheVariants.{Fetch, Load, Store}
-use Rattle.paging.specs.declared.place.Place.{Place}
-pub use Rattle.paging.specs.Accesses.{place_in}
+use Rattle.paging.specs.declared.physical.PhysicalAddress.{PhysicalAddress}
+pub use Rattle.paging.specs.Accesses.{physical_in}
 use Rattle.paging.specs.Walks.{walked}
 use Rattle.tables.specs.declared.tlb.Lookup.{Lookup}
 use Rattle.tables.specs.declared.predictor.Predictor.{Predictor}
@@ -52,20 +52,20 @@ after_lookup core ws address access =
     record core { tables = record core.tables { tlb = filled core.tables.tlb (address / 4096) access (walked ws core.root (address / 4096)) } }
 
 -- a load or store by what the look-up of its page found: a frame, in which it is done as the architecture says, with the cache; or a fault
-abbrev pub access_found : Core → List ℕ → Access → ℕ → (Place → Outcome) → Bool → Option ℕ → Step
+abbrev pub access_found : Core → List ℕ → Access → ℕ → (PhysicalAddress → Outcome) → Bool → Option ℕ → Step
 access_found core ws access address at walked None =
     record { core = record core { context = stopped core.context (fault_cause access) }; words = ws; used = record plain { data_walked = walked } }
 access_found core ws access address at walked (Some frame) = record {
   core = record core {
-    context = (at (place_in frame address)).context;
-    tables = record core.tables { cache = accessed core.tables.cache (line_of (place_in frame address)) (is_store access) };
+    context = (at (physical_in frame address)).context;
+    tables = record core.tables { cache = accessed core.tables.cache (line_of (physical_in frame address)) (is_store access) };
   };
-  words = (at (place_in frame address)).words;
-  used = record plain { data_walked = walked; cache = access_use core.tables.cache (line_of (place_in frame address)) };
+  words = (at (physical_in frame address)).words;
+  used = record plain { data_walked = walked; cache = access_use core.tables.cache (line_of (physical_in frame address)) };
 }
 
 -- alignment is tested first, then the page is looked up, then the cache is asked
-unfoldable pub data_access : Core → List ℕ → Access → ℕ → ℕ → (Place → Outcome) → Step
+unfoldable pub data_access : Core → List ℕ → Access → ℕ → ℕ → (PhysicalAddress → Outcome) → Step
 data_access core ws access bytes address at =
     cond (is_aligned bytes address)
     (access_found (after_lookup core ws address access) ws access address at (looked_up core ws address access).walked (looked_up core ws address access).frame)

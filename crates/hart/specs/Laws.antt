@@ -3,10 +3,10 @@ use Rattle.std.specs.Prelude.{◌≡◌, ℕ, ◌+◌, ◌*◌, ◌^◌, ◌<◌
 use Rattle.words.specs.Frames.{word, written}
 use Rattle.isa.specs.declared.instruction.Counter.TheVariants.{Cycle, Time, CycleHigh}
 use Rattle.isa.specs.Counters.{counter_value}
-use Rattle.tables.specs.Honest.{Honest}
+use Rattle.tables.specs.Coherent.{Coherent}
 use Rattle.paging.specs.declared.leaf.Leaf.{Leaf}
 use Rattle.paging.specs.Mapping.{Maps}
-use Rattle.paging.specs.Tables.{KernelFrame, Names, SameLent, SameTables}
+use Rattle.paging.specs.Tables.{PageTableFrame, References, SameLent, SameTables}
 use Rattle.hart.specs.declared.step.Core.{Core}
 use Rattle.hart.specs.Architecture.{architecture}
 use Rattle.hart.specs.Core.{stepped}
@@ -18,23 +18,23 @@ pub record Agrees (core : Core) (ws : List ℕ) : Type 0 where
 
 -- for every word, every context, every memory, every clock, and any tables whose TLB answers as a walk would
 abbrev pub Agreement : Type 0
-Agreement = (core : Core) (ws : List ℕ) → Honest core.tables.tlb ws core.root → Agrees core ws
+Agreement = (core : Core) (ws : List ℕ) → Coherent core.tables.tlb ws core.root → Agrees core ws
 
 -- no frame that the tables of a root name is one of its tables, or the root itself
 abbrev pub TablesApart : List ℕ → ℕ → Type 0
-TablesApart ws root = (frame : ℕ) → Names ws root frame → KernelFrame ws root frame → ⊥
+TablesApart ws root = (frame : ℕ) → References ws root frame → PageTableFrame ws root frame → ⊥
 
 -- after a step the TLB answers as a walk would
-abbrev pub HonestAfter : Core → List ℕ → Type 0
-HonestAfter core ws = Honest (stepped core ws).core.tables.tlb (stepped core ws).words core.root
+abbrev pub CoherentAfter : Core → List ℕ → Type 0
+CoherentAfter core ws = Coherent (stepped core ws).core.tables.tlb (stepped core ws).words core.root
 
 -- a step that leaves the root and its tables as they are keeps a TLB that answers as a walk would
-abbrev pub KeepsHonest : Type 0
-KeepsHonest = (core : Core) (ws : List ℕ) → SameTables ws (stepped core ws).words core.root → Honest core.tables.tlb ws core.root → HonestAfter core ws
+abbrev pub KeepsCoherent : Type 0
+KeepsCoherent = (core : Core) (ws : List ℕ) → SameTables ws (stepped core ws).words core.root → Coherent core.tables.tlb ws core.root → CoherentAfter core ws
 
 -- and so does every step of a root whose tables name none of them
-abbrev pub StaysHonest : Type 0
-StaysHonest = (core : Core) (ws : List ℕ) → TablesApart ws core.root → Honest core.tables.tlb ws core.root → HonestAfter core ws
+abbrev pub StaysCoherent : Type 0
+StaysCoherent = (core : Core) (ws : List ℕ) → TablesApart ws core.root → Coherent core.tables.tlb ws core.root → CoherentAfter core ws
 
 -- two memories are the same as far as the programs of a root reach: the same tables, the same of the frames concerned lent,
 -- and the same words in every frame that a page maps to
@@ -51,7 +51,7 @@ pub record SameStep (before : Core) (ws vs : List ℕ) : Type 0 where
 
 -- what a program does depends on no other memory
 abbrev pub SeesOwn : Type 0
-SeesOwn = (core : Core) (ws vs : List ℕ) → Honest core.tables.tlb ws core.root → SameOwn ws vs core.root → SameStep core ws vs
+SeesOwn = (core : Core) (ws vs : List ℕ) → Coherent core.tables.tlb ws core.root → SameOwn ws vs core.root → SameStep core ws vs
 
 -- one word changed, in a frame that a page of the root maps to with R and W
 pub record StoredOwn (ws vs : List ℕ) (root : ℕ) : Type 0 where
@@ -68,10 +68,10 @@ pub record StoredOwn (ws vs : List ℕ) (root : ℕ) : Type 0 where
 -- at most that one word changes, and so none in a frame that the tables of the root do not name
 pub record Writes (core : Core) (ws : List ℕ) : Type 0 where
   pub one_word : ((stepped core ws).words ≡ ws) ⊎ StoredOwn ws (stepped core ws).words core.root
-  pub others : (frame k : ℕ) → (Names ws core.root frame → ⊥) → k < 1024 → word (stepped core ws).words frame k ≡ word ws frame k
+  pub others : (frame k : ℕ) → (References ws core.root frame → ⊥) → k < 1024 → word (stepped core ws).words frame k ≡ word ws frame k
 
 abbrev pub WritesOwn : Type 0
-WritesOwn = (core : Core) (ws : List ℕ) → Honest core.tables.tlb ws core.root → Writes core ws
+WritesOwn = (core : Core) (ws : List ℕ) → Coherent core.tables.tlb ws core.root → Writes core ws
 
 -- where no frame that the tables name is one of the tables, a step leaves the tables as they are,
 -- and so two memories that are the same as far as the programs of a root reach are so again
@@ -81,7 +81,7 @@ pub record OwnAgain (core : Core) (ws : List ℕ) : Type 0 where
   pub own : (vs : List ℕ) → SameOwn ws vs core.root → SameOwn (stepped core ws).words (stepped core vs).words core.root
 
 abbrev pub StaysOwn : Type 0
-StaysOwn = (core : Core) (ws : List ℕ) → TablesApart ws core.root → Honest core.tables.tlb ws core.root → OwnAgain core ws
+StaysOwn = (core : Core) (ws : List ℕ) → TablesApart ws core.root → Coherent core.tables.tlb ws core.root → OwnAgain core ws
 
 -- rdcycle and rdcycleh read the two halves of the clock, and rdtime what rdcycle does; while the clock has 64 bits each half has 32
 pub record ClockHalves : Type 0 where

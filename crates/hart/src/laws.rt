@@ -2,7 +2,7 @@
 ghost use Rattle.hart.specs.Bytes.{LoadsBytes, StoresBytes};
 ghost use Rattle.hart.specs.Clocked.{Clocked};
 ghost use Rattle.hart.specs.Example.{Example};
-ghost use Rattle.hart.specs.Laws.{Agreement, ClockHalves, KeepsHonest, SeesOwn, StaysHonest, StaysOwn, WritesOwn};
+ghost use Rattle.hart.specs.Laws.{Agreement, ClockHalves, KeepsCoherent, SeesOwn, StaysCoherent, StaysOwn, WritesOwn};
 ghost use Rattle.hart.specs.Meant.{Meant};
 ghost use Rattle.hart.specs.Steps.{StayWhole, Steps, UsesTables};
 
@@ -10,8 +10,8 @@ pub fn laws()
     ensures agreement { Agreement }
     ensures clocked { Clocked }
     ensures example { Example }
-    ensures keeps { KeepsHonest }
-    ensures honest { StaysHonest }
+    ensures keeps { KeepsCoherent }
+    ensures coherent { StaysCoherent }
     ensures own { SeesOwn }
     ensures writes { WritesOwn }
     ensures stays { StaysOwn }

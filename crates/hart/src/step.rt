@@ -8,7 +8,7 @@ ghost use Rattle.hart.specs.Scaffold.{faulted};
 use crate::cause::Cause;
 use crate::context::Context;
 use paging::access::Access;
-use paging::place::PAGE_BYTES;
+use paging::physical::PAGE_BYTES;
 use tables::Tables;
 use tables::tlb::Lookup;
 

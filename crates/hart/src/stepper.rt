@@ -14,7 +14,7 @@ use costs::used::walk_cycles;
 use costs::{INSTRUCTION, WORST_INSTRUCTION};
 use isa::decoder::Decoder;
 use paging::access::Access;
-use paging::place::PAGE_BYTES;
+use paging::physical::PAGE_BYTES;
 use tables::tlb::Lookup;
 use words::frames;
 

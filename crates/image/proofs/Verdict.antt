@@ -1,7 +1,7 @@
 -- What an image's fault says of its length.
 use Rattle.std.proofs.Common.{◌≡◌, ◌⊎◌, List, ℕ, length, Some, None, Result, MatchResult, refl, inl, inr, arith}
 use Rattle.std.proofs.lemmas.Bool.{cases_lt, lt-ltb, le-ltb}
-use Rattle.words.specs.First.{unless}
+use Rattle.ranges.specs.Questions.{unless}
 use Rattle.plan.specs.declared.refusal.Refusal.{Refusal}
 use Rattle.plan.specs.declared.refusal.Refusal.TheVariants.{FramesMissing, Surplus}
 use Rattle.image.specs.Frames.{ImageBroken, Whole, counted, image_fault, image_size}

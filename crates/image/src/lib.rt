@@ -2,7 +2,7 @@
 #![tactic(auto)]
 
 ghost use Rattle.std.specs.Prelude.{◌≡◌, ◌≤◌, IfOk, MatchResult};
-ghost use Rattle.words.specs.First.{unless};
+ghost use Rattle.ranges.specs.Questions.{unless};
 ghost use Rattle.image.specs.Example.{Example};
 ghost use Rattle.image.specs.Frames.{CountTells, ImageBroken, TellsAll, Whole, WordsAreBytes, counted, front_size, image_fault, image_size, image_words, lent_frames, longest};
 

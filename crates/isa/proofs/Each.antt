@@ -18,7 +18,7 @@ use Rattle.isa.specs.Loads.{load_number, loads}
 use Rattle.isa.specs.Stores.{store_number, stores}
 use Rattle.isa.specs.Counters.{counter_number, counters}
 use Rattle.isa.specs.Decoding.{Major, opcode_of, majors, constant, shift, in_major, decoded}
-use Rattle.isa.specs.Encoding.{encoding, Within, Lawful}
+use Rattle.isa.specs.Encoding.{encoding, Within, Encodable}
 use Rattle.isa.proofs.Complement.{bits_below, signed_of_bits, zeros}
 use Rattle.isa.proofs.Rows.{finds, meets, plain, apart, Row, operation_listed}
 use Rattle.isa.proofs.Same.{below, same_register}
@@ -64,7 +64,7 @@ shift_back w k d r n listed small q =
     let s : shift w ≡ Some (RegisterImmediate k d r (pos n)) = meets operation_number shifts _ (funct7 w * 8 + funct3 w) k both listed ∙ cc in
     (m.0.word, major w Major.OPIMM _ m.0.in_opcode refl (ap (λ o. option_or o (shift w)) none ∙ s))
 
-pub back : (w : ℕ) (i : Instruction) → Lawful i → encoding i ≡ w → Back w i
+pub back : (w : ℕ) (i : Instruction) → Encodable i → encoding i ≡ w → Back w i
 back w (Lui d z) (h, e) q =
     let m = upper_back w d z 0x37 (omega arith) h e q in
     (m.0, major w Major.LUI _ m.1 refl (cc))

@@ -3,7 +3,7 @@ use Rattle.std.proofs.Common.{rules, ◌≡◌, ℕ, Some, None, Option, sym, re
 use Rattle.std.proofs.lemmas.Option.{same_Some, none-some}
 use Rattle.isa.specs.declared.instruction.Instruction.{Instruction}
 use Rattle.isa.specs.Decoding.{decoded}
-use Rattle.isa.specs.Encoding.{encoding, Lawful}
+use Rattle.isa.specs.Encoding.{encoding, Encodable}
 use Rattle.isa.specs.Laws.{Exact, Encodes, Injective, Illegal}
 use Rattle.isa.proofs.Each.{back}
 use Rattle.isa.proofs.Only.{Of, only}
@@ -18,7 +18,7 @@ pub injective : Injective
 injective i j l m e = same_Some i j (sym (back (encoding i) i l refl).1 ∙ (back (encoding i) j m (sym e)).1)
 
 -- a word with no instruction, once decoding has answered
-refused : (w : ℕ) (o : Option Instruction) → ((i : Instruction) → o ≡ Some i → Of w i) → ((i : Instruction) → Lawful i → encoding i ≡ w → ⊥) → o ≡ None
+refused : (w : ℕ) (o : Option Instruction) → ((i : Instruction) → o ≡ Some i → Of w i) → ((i : Instruction) → Encodable i → encoding i ≡ w → ⊥) → o ≡ None
 refused w None of alone = refl
 refused w (Some i) of alone = let o = of i refl in search rules
 

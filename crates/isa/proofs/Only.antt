@@ -4,7 +4,7 @@ use Rattle.std.proofs.lemmas.Int.{ints}
 use Rattle.std.proofs.lemmas.Bool.{eqb-true, and_parts}
 use Rattle.std.specs.Option.{option_and_then}
 use Rattle.words.specs.Bits.{field, signed}
-use Rattle.words.proofs.First.{or_some}
+use Rattle.ranges.proofs.Questions.{or_some}
 use Rattle.words.proofs.Signs.{signs}
 use Rattle.isa.specs.declared.instruction.Operation.{Operation}
 use Rattle.isa.specs.declared.instruction.Condition.{Condition}
@@ -22,14 +22,14 @@ use Rattle.isa.specs.Loads.{load_number, loads}
 use Rattle.isa.specs.Stores.{store_number, stores}
 use Rattle.isa.specs.Counters.{counter_number, counters}
 use Rattle.isa.specs.Decoding.{Major, opcode_of, majors, constant, shift, in_major, decoded}
-use Rattle.isa.specs.Encoding.{encoding, Within, Lawful}
+use Rattle.isa.specs.Encoding.{encoding, Within, Encodable}
 use Rattle.isa.proofs.Complement.{bits_of_signed, low_bits}
 use Rattle.isa.proofs.Rows.{and_some, found, plain, operation_listed}
 use Rattle.isa.proofs.Words.{r_word, i_word, s_word, b_word, u_word, j_word}
 
 -- the word of a lawful instruction
 abbrev pub Of : ℕ → Instruction → Type 0
-Of w i = (encoding i ≡ w) × Lawful i
+Of w i = (encoding i ≡ w) × Encodable i
 
 within : (k n : ℕ) → 0 < k → Within k (signed k n)
 within k n some = let s = signs k n some in (s.least, s.most)

@@ -38,16 +38,16 @@ abbrev pub Multiple : ℕ → ℤ → Type 0
 Multiple zeros z = remainder zeros z ≡ 0
 
 -- the instructions that have a word: their immediates can be written. Their registers are below 32 by type.
-abbrev pub Lawful : Instruction → Type 0
-Lawful (Lui rd value) = Within 32 value × Multiple 12 value
-Lawful (Auipc rd value) = Within 32 value × Multiple 12 value
-Lawful (Jal rd offset) = Within 21 offset × Multiple 1 offset
-Lawful (Jalr rd base offset) = Within 12 offset
-Lawful (Branch condition left right offset) = Within 13 offset × Multiple 1 offset
-Lawful (Load width rd base offset) = Within 12 offset
-Lawful (Store width base source offset) = Within 12 offset
-Lawful (RegisterImmediate operation rd source value) =
+abbrev pub Encodable : Instruction → Type 0
+Encodable (Lui rd value) = Within 32 value × Multiple 12 value
+Encodable (Auipc rd value) = Within 32 value × Multiple 12 value
+Encodable (Jal rd offset) = Within 21 offset × Multiple 1 offset
+Encodable (Jalr rd base offset) = Within 12 offset
+Encodable (Branch condition left right offset) = Within 13 offset × Multiple 1 offset
+Encodable (Load width rd base offset) = Within 12 offset
+Encodable (Store width base source offset) = Within 12 offset
+Encodable (RegisterImmediate operation rd source value) =
     (Listed funct3_of constants operation × Within 12 value)
     ⊎ (Listed operation_number shifts operation × (pos 0 ≤ℤ value) × (value <ℤ pos 32))
-Lawful (RegisterRegister operation rd left right) = Unit {0}
-Lawful (ReadCounter rd counter) = Unit {0}
+Encodable (RegisterRegister operation rd left right) = Unit {0}
+Encodable (ReadCounter rd counter) = Unit {0}

@@ -12,27 +12,27 @@ use Rattle.isa.specs.Registers.{register, blank, held, written}
 use Rattle.isa.specs.Operations.{computed}
 use Rattle.isa.specs.Conditions.{holds}
 use Rattle.isa.specs.Decoding.{decoded}
-use Rattle.isa.specs.Encoding.{encoding, Lawful}
+use Rattle.isa.specs.Encoding.{encoding, Encodable}
 
 -- a word decodes to an instruction if and only if it is the word of that instruction, which is lawful
 pub record Decodes (w : ℕ) (i : Instruction) : Type 0 where
-  pub only : decoded w ≡ Some i → (encoding i ≡ w) × Lawful i
-  pub each : encoding i ≡ w → Lawful i → decoded w ≡ Some i
+  pub only : decoded w ≡ Some i → (encoding i ≡ w) × Encodable i
+  pub each : encoding i ≡ w → Encodable i → decoded w ≡ Some i
 
 abbrev pub Exact : Type 0
 Exact = (w : ℕ) (i : Instruction) → w < 2 ^ 32 → Decodes w i
 
 -- a lawful instruction has a word of 32 bits, and no other has the same
 abbrev pub Encodes : Type 0
-Encodes = (i : Instruction) → Lawful i → encoding i < 2 ^ 32
+Encodes = (i : Instruction) → Encodable i → encoding i < 2 ^ 32
 
 abbrev pub Injective : Type 0
-Injective = (i j : Instruction) → Lawful i → Lawful j → encoding i ≡ encoding j → i ≡ j
+Injective = (i j : Instruction) → Encodable i → Encodable j → encoding i ≡ encoding j → i ≡ j
 
 -- a word is illegal if and only if no lawful instruction has it
 pub record Refuses (w : ℕ) : Type 0 where
-  pub none : decoded w ≡ None → (i : Instruction) → Lawful i → encoding i ≢ w
-  pub illegal : ((i : Instruction) → Lawful i → encoding i ≢ w) → decoded w ≡ None
+  pub none : decoded w ≡ None → (i : Instruction) → Encodable i → encoding i ≢ w
+  pub illegal : ((i : Instruction) → Encodable i → encoding i ≢ w) → decoded w ≡ None
 
 abbrev pub Illegal : Type 0
 Illegal = (w : ℕ) → w < 2 ^ 32 → Refuses w

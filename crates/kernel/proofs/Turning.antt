@@ -30,10 +30,10 @@ same_end p m ws slot core stop a b c early =
     let least : min stop latest ≡ stop = omega arith in
     rw (least, b, c, n, a) refl
 
-module _ (a : Accepted) (m : Machine) (ws : List ℕ) (goes : can_run a.plan m ≡ true) (slot : Slot) (is : slot ≡ coming a.plan m) (x : Moment) (ends : x ≡ (ended a.plan (system m ws)).now) where
+module _ (a : Accepted) (m : Machine) (ws : List ℕ) (goes : can_run a.plan m ≡ true) (slot : Slot) (is : slot ≡ coming a.plan m) (x : Moment) (frames : x ≡ (ended a.plan (system m ws)).now) where
   all : record { who = slot.partition; now = x } ≡ ended a.plan (system m ws)
   unfolding inside_after
-  all = rw (is, ends) refl
+  all = rw (is, frames) refl
 
   pub told : Some (report_of m (record { who = slot.partition; now = x })) ≡ slot_report a.plan (system m ws)
   unfolding slot_report
@@ -45,4 +45,4 @@ module _ (a : Accepted) (m : Machine) (ws : List ℕ) (goes : can_run a.plan m �
 
   pub words_after : delivered a (copies a.plan slot.partition) x.words ≡ (after_slot a (system m ws)).words
   unfolding after_slot slot_ran
-  words_after = rw (goes, is, ends)
+  words_after = rw (goes, is, frames)

@@ -8,12 +8,12 @@ use Rattle.tables.specs.Cache.{dirty_count}
 use Rattle.plan.specs.declared.model.Plan.{Plan}
 use Rattle.plan.specs.Switch.{Copy, copies, copy_cycles}
 use Rattle.checker.specs.declared.Accepted.{Accepted}
-use Rattle.checker.specs.declared.pages.Ends.{Ends}
-use Rattle.checker.specs.Pages.{ends_at}
+use Rattle.checker.specs.declared.pages.ChannelFrames.{ChannelFrames}
+use Rattle.checker.specs.Pages.{frames_at}
 
 -- the frames that a channel joins
-abbrev pub ends_of : Accepted → ℕ → Ends
-ends_of a k = ends_at a.ends k
+abbrev pub frames_of : Accepted → ℕ → ChannelFrames
+frames_of a k = frames_at a.frames k
 
 -- the words after so many of one frame are copied over those of another; nothing is copied where one of the frames is not lent
 abbrev pub copied_words : List ℕ → ℕ → ℕ → ℕ → List ℕ
@@ -21,7 +21,7 @@ copied_words words from to count = cond (lent words from && lent words to) (past
 
 -- the words after a copy between the frames that its channel joins
 abbrev pub carried : Accepted → List ℕ → Copy → List ℕ
-carried a words c = copied_words words (ends_of a c.channel).sender (ends_of a c.channel).receiver c.words
+carried a words c = copied_words words (frames_of a c.channel).sender (frames_of a c.channel).receiver c.words
 
 -- the words after one copy and the next
 abbrev pub delivered : Accepted → List Copy → List ℕ → List ℕ

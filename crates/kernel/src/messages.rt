@@ -2,25 +2,25 @@
 ghost use Rattle.std.specs.Prelude.{◌≡◌, cond};
 ghost use Rattle.plan.specs.Places.{leaves};
 ghost use Rattle.plan.specs.Switch.{copies, message};
-ghost use Rattle.checker.specs.Pages.{ends_at};
+ghost use Rattle.checker.specs.Pages.{frames_at};
 ghost use Rattle.kernel.specs.Switch.{carried, delivered};
 
 use checker::Accepted;
-use checker::pages::Ends;
+use checker::pages::ChannelFrames;
 use words::frames;
 
-fn ends_at(ends: &[Ends], k: u8) -> Ends
-    ensures { result ≡ ends_at ends.now k }
+fn frames_at(frames: &[ChannelFrames], k: u8) -> ChannelFrames
+    ensures { result ≡ frames_at frames.now k }
 {
-    ends.get(usize::from(k)).copied().unwrap_or_default()
+    frames.get(usize::from(k)).copied().unwrap_or_default()
 }
 
 fn carry(accepted: &Accepted, who: u8, k: u8, words: &mut [u32])
     ensures { words.new ≡ cond (leaves accepted.now.plan who k) (carried accepted.now words.old (message accepted.now.plan k)) words.old }
 {
     if accepted.plan.channel(usize::from(k)).sender.partition == who {
-        let ends = ends_at(&accepted.ends, k);
-        frames::copy(words, ends.sender, ends.receiver);
+        let frames = frames_at(&accepted.frames, k);
+        frames::copy(words, frames.sender, frames.receiver);
     }
 }
 

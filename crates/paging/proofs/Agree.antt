@@ -5,8 +5,8 @@ use Rattle.words.proofs.Frame.{lends, reads_back}
 use Rattle.paging.specs.declared.leaf.Leaf.{Leaf}
 use Rattle.paging.specs.Walks.{walked}
 use Rattle.paging.specs.Mapping.{InMemory, Pointer, Maps}
-use Rattle.paging.specs.Tables.{KernelFrame, Names, Owns, PointsTo, SameLent, SameTables}
-use Rattle.paging.specs.Laws.{LeavesNamed, Local, OneLeaf, PagesEnd, SameWay, TablesDecide, WalksFind, WritesApart}
+use Rattle.paging.specs.Tables.{PageTableFrame, References, Owns, PointsTo, SameLent, SameTables}
+use Rattle.paging.specs.Laws.{LeavesReferenced, Local, OneLeaf, PagesEnd, SameWay, TablesDecide, WalksFind, WritesApart}
 use Rattle.std.proofs.lemmas.Option.{same_Some}
 use Rattle.paging.proofs.Found.{finds, maps_walk, walk_maps}
 
@@ -86,14 +86,14 @@ module _ (ws vs : List ℕ) (root : ℕ) where
 pub local : Local
 local = local_walk
 
-pub leaves_named : LeavesNamed
+pub leaves_named : LeavesReferenced
 leaves_named ws root page leaf m = record {
   table = m.table;
   by = record { at = m.high; within = m.high_below; points = m.points };
   at = m.low;
   within = m.low_below;
   valid = m.leads.valid;
-  names = m.leads.frame;
+  references = m.leads.frame;
 }
 
 module _ (ws vs : List ℕ) (root : ℕ) (same : SameTables ws vs root) where
@@ -103,18 +103,18 @@ module _ (ws vs : List ℕ) (root : ℕ) (same : SameTables ws vs root) where
   points_to_back : (table : ℕ) → PointsTo vs root table → PointsTo ws root table
   points_to_back table p = record { at = p.at; within = p.within; points = rw (same root p.at (inl refl) p.within) at p.points }
 
-  pub kernel_there : (frame : ℕ) → KernelFrame ws root frame → KernelFrame vs root frame
+  pub kernel_there : (frame : ℕ) → PageTableFrame ws root frame → PageTableFrame vs root frame
   kernel_there frame (inl e) = inl e
   kernel_there frame (inr p) = inr (points_to_there frame p)
 
-  pub kernel_back : (frame : ℕ) → KernelFrame vs root frame → KernelFrame ws root frame
+  pub kernel_back : (frame : ℕ) → PageTableFrame vs root frame → PageTableFrame ws root frame
   kernel_back frame (inl e) = inl e
   kernel_back frame (inr p) = inr (points_to_back frame p)
 
   pub tables_back : SameTables vs ws root
   tables_back frame k kernel l = sym (same frame k (kernel_back frame kernel) l)
 
-  pub names_there : (frame : ℕ) → Names ws root frame → Names vs root frame
+  pub names_there : (frame : ℕ) → References ws root frame → References vs root frame
   names_there frame n =
       let e = same n.table n.at (inr n.by) n.within in
       record {
@@ -123,12 +123,12 @@ module _ (ws vs : List ℕ) (root : ℕ) (same : SameTables ws vs root) where
         at = n.at;
         within = n.within;
         valid = rw e n.valid;
-        names = rw e n.names;
+        references = rw e n.references;
       }
 
   pub owns_there : (frame : ℕ) → Owns ws root frame → Owns vs root frame
   owns_there frame (inl kernel) = inl (kernel_there frame kernel)
-  owns_there frame (inr names) = inr (names_there frame names)
+  owns_there frame (inr references) = inr (names_there frame references)
 
   -- the way of a page leads through the tables alone
   pub tables_way : SameLent ws vs root → (high low : ℕ) → high < 1024 → low < 1024 → SameWay ws vs root high low
@@ -139,12 +139,12 @@ module _ (ws vs : List ℕ) (root : ℕ) (same : SameTables ws vs root) where
         table_entry = λ table p. same table low (inr (by table p)) low_below;
         root_lent = lents root (inl (inl refl));
         table_lent = λ table p. lents table (inl (inr (by table p)));
-        leaf_lent = λ table l p e. lents l.frame (inr (record { table = table; by = by table p; at = low; within = low_below; valid = e.valid; names = e.frame }));
+        leaf_lent = λ table l p e. lents l.frame (inr (record { table = table; by = by table p; at = low; within = low_below; valid = e.valid; references = e.frame }));
       }
 
 -- two memories with the same tables have the same frames of the root
 module _ (ws vs : List ℕ) (root : ℕ) (same : SameTables ws vs root) where
-  pub names_back : (frame : ℕ) → Names vs root frame → Names ws root frame
+  pub names_back : (frame : ℕ) → References vs root frame → References ws root frame
   names_back = names_there vs ws root (tables_back ws vs root same)
 
   pub owns_back : (frame : ℕ) → Owns vs root frame → Owns ws root frame
@@ -157,7 +157,7 @@ tables_decide ws vs root same =
     record {
       back = back;
       points_to = points_to_there ws vs root same;
-      names = names_there ws vs root same;
+      references = names_there ws vs root same;
       walks = λ lents page. same_walk ws vs root page
           (λ leaf m. tables_way ws vs root same lents m.high m.low m.high_below m.low_below)
           (λ leaf m. tables_way vs ws root back (lent_back lents) m.high m.low m.high_below m.low_below);
@@ -167,6 +167,6 @@ pub writes_apart : WritesApart
 writes_apart ws root frame offset value l apart =
     let writes = reads_back ws frame offset value in
     let same : SameTables ws (written ws frame offset value) root =
-    λ f k kernel b. writes.others (f * 1024 + k) (λ e. apart (let s : f ≡ frame = omega arith in subst (KernelFrame ws root) s kernel)) in
+    λ f k kernel b. writes.others (f * 1024 + k) (λ e. apart (let s : f ≡ frame = omega arith in subst (PageTableFrame ws root) s kernel)) in
     let lents : SameLent ws (written ws frame offset value) root = λ f _. rw writes.as_many refl in
     (tables_decide ws (written ws frame offset value) root same).walks lents

@@ -3,9 +3,9 @@ use Rattle.std.proofs.Common.{rules, ◌≡◌, ℕ, ◌/◌, ◌%◌, Bool, tru
 use Rattle.std.proofs.lemmas.Nat.{mod_below}
 use Rattle.paging.specs.declared.access.Access.{Access}
 use Rattle.paging.specs.declared.leaf.Leaf.{Leaf}
-use Rattle.paging.specs.declared.place.Place.{Place}
-use Rattle.paging.specs.Accesses.{PageFault, page_fault, permitted, place_in}
-use Rattle.paging.specs.Walks.{then_place, translated, walked}
+use Rattle.paging.specs.declared.physical.PhysicalAddress.{PhysicalAddress}
+use Rattle.paging.specs.Accesses.{PageFault, page_fault, permitted, physical_in}
+use Rattle.paging.specs.Walks.{then_physical, translated, walked}
 use Rattle.paging.specs.Mapping.{Allows, Reaches, Translates}
 use Rattle.paging.specs.Laws.{TranslationsReach}
 use Rattle.paging.proofs.Found.{maps_walk, walk_maps}
@@ -22,21 +22,21 @@ module _ {X E : Type 0} (x : X) (e : E) where
   tested_err test d h = search rules
 
 module _ (address : ℕ) (access : Access) where
-  placed_through : (o : Option Leaf) (place : Place) → then_place address access o ≡ Ok place → (leaf : Leaf) × (o ≡ Some leaf) × Allows leaf access × (place_in leaf.frame address ≡ place)
-  placed_through None place e = absurd (cc)
-  placed_through (Some leaf) place e =
-      let t = tested_ok (place_in leaf.frame address) (page_fault access) (permitted leaf access) place e in
+  placed_through : (o : Option Leaf) (physical : PhysicalAddress) → then_physical address access o ≡ Ok physical → (leaf : Leaf) × (o ≡ Some leaf) × Allows leaf access × (physical_in leaf.frame address ≡ physical)
+  placed_through None physical e = absurd (cc)
+  placed_through (Some leaf) physical e =
+      let t = tested_ok (physical_in leaf.frame address) (page_fault access) (permitted leaf access) physical e in
       (leaf, refl, (permitted_tells leaf access).0 t.0, t.1)
 
-  faulted : (o : Option Leaf) (d : PageFault) → then_place address access o ≡ Err d → d.access ≡ access
+  faulted : (o : Option Leaf) (d : PageFault) → then_physical address access o ≡ Err d → d.access ≡ access
   faulted None d e = cc
-  faulted (Some leaf) d e = ap (λ f. f.access) (sym (tested_err (place_in leaf.frame address) (page_fault access) (permitted leaf access) d e))
+  faulted (Some leaf) d e = ap (λ f. f.access) (sym (tested_err (physical_in leaf.frame address) (page_fault access) (permitted leaf access) d e))
 
 module _ (ws : List ℕ) (root address : ℕ) (access : Access) where
-  reaches : (place : Place) → translated ws root address access ≡ Ok place → Reaches ws root address access place
+  reaches : (physical : PhysicalAddress) → translated ws root address access ≡ Ok physical → Reaches ws root address access physical
   unfolding translated
-  reaches place e =
-      let t = placed_through address access (walked ws root (address / 4096)) place e in
+  reaches physical e =
+      let t = placed_through address access (walked ws root (address / 4096)) physical e in
       subst (Reaches ws root address access) t.3 (record {
         page = address / 4096;
         leaf = t.0;
@@ -47,18 +47,18 @@ module _ (ws : List ℕ) (root address : ℕ) (access : Access) where
         number = omega arith;
       })
 
-  placed : (place : Place) → Reaches ws root address access place → translated ws root address access ≡ Ok place
+  placed : (physical : PhysicalAddress) → Reaches ws root address access physical → translated ws root address access ≡ Ok physical
   unfolding translated
-  placed place r =
+  placed physical r =
       let page : address / 4096 ≡ r.page = omega (arith, r.number, r.inside) in
-      let offset : address % 4096 ≡ place.offset = omega (arith, r.number, r.inside) in
+      let offset : address % 4096 ≡ physical.offset = omega (arith, r.number, r.inside) in
       rw (page, maps_walk ws root r.page r.leaf r.maps, (permitted_tells r.leaf access).1 r.allows, offset, sym r.frame) refl
 
   faults : (d : PageFault) → translated ws root address access ≡ Err d → d.access ≡ access
   unfolding translated
   faults = faulted address access (walked ws root (address / 4096))
 
-  pub translates : (answer : Result Place PageFault) → answer ≡ translated ws root address access → Translates ws root address access answer
+  pub translates : (answer : Result PhysicalAddress PageFault) → answer ≡ translated ws root address access → Translates ws root address access answer
   translates answer is = rw is (record { reaches = reaches; placed = placed; faults = faults })
 
 pub translations_reach : TranslationsReach

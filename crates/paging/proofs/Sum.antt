@@ -3,7 +3,7 @@ use Rattle.std.proofs.Common.{◌≡◌, ℕ, ◌*◌, ◌/◌, ◌^◌, refl, i
 use Rattle.std.proofs.lemmas.Nat.{mod_below}
 use Rattle.std.proofs.lemmas.Bool.{cases_eq}
 use Rattle.words.specs.Bits.{field}
-use Rattle.words.specs.First.{weight}
+use Rattle.ranges.specs.Questions.{weight}
 use Rattle.paging.specs.Entries.{flag}
 use Rattle.paging.specs.Laws.{EntriesAddUp}
 

@@ -29,7 +29,7 @@ is_accessed entry = flag entry 6
 abbrev pub is_dirty : ℕ → Bool
 is_dirty entry = flag entry 7
 
--- the frame that an entry names
+-- the frame that an entry references
 abbrev pub frame_of : ℕ → ℕ
 frame_of entry = entry / 2 ^ 10
 
@@ -45,7 +45,7 @@ is_pointer entry = is_valid entry && not (grants entry)
 abbrev pub is_leaf : ℕ → Bool
 is_leaf entry = is_valid entry && (grants entry && (is_user entry && (is_accessed entry && is_dirty entry)))
 
--- the frame that an entry names, with its R, W and X
+-- the frame that an entry references, with its R, W and X
 abbrev pub fields : ℕ → Leaf
 fields entry = record { frame = frame_of entry; readable = is_readable entry; writable = is_writable entry; executable = is_executable entry }
 

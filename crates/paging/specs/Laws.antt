@@ -1,13 +1,13 @@
 -- What the definitions of this crate come to.
 use Rattle.std.specs.Prelude.{◌≡◌, ℕ, ◌+◌, ◌*◌, ◌^◌, ◌<◌, ◌≤◌, List, None}
 use Rattle.words.specs.Bits.{field}
-use Rattle.words.specs.First.{weight}
+use Rattle.ranges.specs.Questions.{weight}
 use Rattle.words.specs.Frames.{lent, word, written}
 use Rattle.paging.specs.declared.access.Access.{Access}
 use Rattle.paging.specs.declared.leaf.Leaf.{Leaf}
 use Rattle.paging.specs.Entries.{flag, frame_of, is_accessed, is_dirty, is_executable, is_readable, is_user, is_valid, is_writable}
 use Rattle.paging.specs.Mapping.{Finds, LeafEntry, Maps, Pointer, Translates}
-use Rattle.paging.specs.Tables.{Alike, KernelFrame, Names, SameTables}
+use Rattle.paging.specs.Tables.{Alike, PageTableFrame, References, SameTables}
 use Rattle.paging.specs.Walks.{translated, walked}
 
 -- an entry is the sum of its fields: V, R, W, X, U, G, A and D from bit 0 on, two bits for software, and the frame
@@ -56,9 +56,9 @@ TablesDecide = (ws vs : List ℕ) (root : ℕ) → SameTables ws vs root → Ali
 -- a write to any other frame changes no walk
 abbrev pub WritesApart : Type 0
 WritesApart =
-    (words : List ℕ) (root frame offset value : ℕ) → offset < 1024 → (KernelFrame words root frame → ⊥) →
+    (words : List ℕ) (root frame offset value : ℕ) → offset < 1024 → (PageTableFrame words root frame → ⊥) →
     (page : ℕ) → walked (written words frame offset value) root page ≡ walked words root page
 
--- the frame that a page maps to is one that the root names
-abbrev pub LeavesNamed : Type 0
-LeavesNamed = (words : List ℕ) (root page : ℕ) (leaf : Leaf) → Maps words root page leaf → Names words root leaf.frame
+-- the frame that a page maps to is one that the root references
+abbrev pub LeavesReferenced : Type 0
+LeavesReferenced = (words : List ℕ) (root page : ℕ) (leaf : Leaf) → Maps words root page leaf → References words root leaf.frame

@@ -4,7 +4,7 @@ use Rattle.words.specs.Frames.{word}
 use Rattle.paging.specs.declared.access.Access.{Access}
 use Rattle.paging.specs.declared.access.Access.TheVariants.{Fetch, Load, Store}
 use Rattle.paging.specs.declared.leaf.Leaf.{Leaf}
-use Rattle.paging.specs.declared.place.Place.{Place}
+use Rattle.paging.specs.declared.physical.PhysicalAddress.{PhysicalAddress}
 use Rattle.paging.specs.Accesses.{PageFault}
 use Rattle.paging.specs.Entries.{frame_of, is_accessed, is_dirty, is_executable, is_readable, is_user, is_valid, is_writable}
 
@@ -61,17 +61,17 @@ Allows leaf Load = leaf.readable ≡ true
 Allows leaf Store = (leaf.readable ≡ true) × (leaf.writable ≡ true)
 
 -- an access to an address reaches a place: the address lies in a page that maps to the place's frame and allows the access
-pub record Reaches (words : List ℕ) (root address : ℕ) (access : Access) (place : Place) : Type 0 where
+pub record Reaches (words : List ℕ) (root address : ℕ) (access : Access) (physical : PhysicalAddress) : Type 0 where
   pub page : ℕ
   pub leaf : Leaf
   pub maps : Maps words root page leaf
   pub allows : Allows leaf access
-  pub frame : place.frame ≡ leaf.frame
-  pub inside : place.offset < 4096
-  pub number : address ≡ page * 4096 + place.offset
+  pub frame : physical.frame ≡ leaf.frame
+  pub inside : physical.offset < 4096
+  pub number : address ≡ page * 4096 + physical.offset
 
 -- what the answer of a translation has to be
-pub record Translates (words : List ℕ) (root address : ℕ) (access : Access) (answer : Result Place PageFault) : Type 0 where
-  pub reaches : (place : Place) → answer ≡ Ok place → Reaches words root address access place
-  pub placed : (place : Place) → Reaches words root address access place → answer ≡ Ok place
+pub record Translates (words : List ℕ) (root address : ℕ) (access : Access) (answer : Result PhysicalAddress PageFault) : Type 0 where
+  pub reaches : (physical : PhysicalAddress) → answer ≡ Ok physical → Reaches words root address access physical
+  pub placed : (physical : PhysicalAddress) → Reaches words root address access physical → answer ≡ Ok physical
   pub faults : (fault : PageFault) → answer ≡ Err fault → fault.access ≡ access

@@ -11,26 +11,26 @@ pub record PointsTo (words : List ℕ) (root table : ℕ) : Type 0 where
   pub within : at < 1024
   pub points : Pointer (word words root at) table
 
--- a valid entry of a table of the root names the frame, be the entry a leaf or not
-pub record Names (words : List ℕ) (root frame : ℕ) : Type 0 where
+-- a valid entry of a table of the root references the frame, be the entry a leaf or not
+pub record References (words : List ℕ) (root frame : ℕ) : Type 0 where
   pub table : ℕ
   pub by : PointsTo words root table
   pub at : ℕ
   pub within : at < 1024
   pub valid : is_valid (word words table at) ≡ true
-  pub names : frame_of (word words table at) ≡ frame
+  pub references : frame_of (word words table at) ≡ frame
 
 -- the root itself, or a table that it points to
-abbrev pub KernelFrame : List ℕ → ℕ → ℕ → Type 0
-KernelFrame words root frame = (frame ≡ root) ⊎ PointsTo words root frame
+abbrev pub PageTableFrame : List ℕ → ℕ → ℕ → Type 0
+PageTableFrame words root frame = (frame ≡ root) ⊎ PointsTo words root frame
 
 -- the frames of a root: itself, its tables, and the frames that they name
 abbrev pub Owns : List ℕ → ℕ → ℕ → Type 0
-Owns words root frame = KernelFrame words root frame ⊎ Names words root frame
+Owns words root frame = PageTableFrame words root frame ⊎ References words root frame
 
 -- two memories hold the same words in the root and in every table that it points to
 abbrev pub SameTables : List ℕ → List ℕ → ℕ → Type 0
-SameTables ws vs root = (frame k : ℕ) → KernelFrame ws root frame → k < 1024 → word vs frame k ≡ word ws frame k
+SameTables ws vs root = (frame k : ℕ) → PageTableFrame ws root frame → k < 1024 → word vs frame k ≡ word ws frame k
 
 -- of the root, its tables and the frames that they name, two memories lend the same; they may lend different numbers of frames
 abbrev pub SameLent : List ℕ → List ℕ → ℕ → Type 0
@@ -40,5 +40,5 @@ SameLent ws vs root = (frame : ℕ) → Owns ws root frame → lent vs frame ≡
 pub record Alike (ws vs : List ℕ) (root : ℕ) : Type 0 where
   pub back : SameTables vs ws root
   pub points_to : (table : ℕ) → PointsTo ws root table → PointsTo vs root table
-  pub names : (frame : ℕ) → Names ws root frame → Names vs root frame
+  pub references : (frame : ℕ) → References ws root frame → References vs root frame
   pub walks : SameLent ws vs root → (page : ℕ) → walked vs root page ≡ walked ws root page

@@ -3,8 +3,8 @@ use Rattle.std.specs.Prelude.{ℕ, ◌/◌, ◌%◌, Bool, cond, ◌&&◌, List,
 use Rattle.words.specs.Frames.{lent, word}
 use Rattle.paging.specs.declared.access.Access.{Access}
 use Rattle.paging.specs.declared.leaf.Leaf.{Leaf}
-use Rattle.paging.specs.declared.place.Place.{Place}
-use Rattle.paging.specs.Accesses.{PageFault, page_fault, place_through}
+use Rattle.paging.specs.declared.physical.PhysicalAddress.{PhysicalAddress}
+use Rattle.paging.specs.Accesses.{PageFault, page_fault, physical_through}
 use Rattle.paging.specs.Entries.{frame_of, is_pointer, leaf_of}
 
 -- whether a walk may go to a frame: below 256, and lent
@@ -34,10 +34,10 @@ then_leaf words low (Some table) = leaf_at words table low
 unfoldable pub walked : List ℕ → ℕ → ℕ → Option Leaf
 walked words root page = then_leaf words (page % 1024) (table_at words root (page / 1024))
 
-abbrev pub then_place : ℕ → Access → Option Leaf → Result Place PageFault
-then_place address access None = Err (page_fault access)
-then_place address access (Some leaf) = place_through leaf address access
+abbrev pub then_physical : ℕ → Access → Option Leaf → Result PhysicalAddress PageFault
+then_physical address access None = Err (page_fault access)
+then_physical address access (Some leaf) = physical_through leaf address access
 
 -- the place that an access to an address reaches, or its fault
-unfoldable pub translated : List ℕ → ℕ → ℕ → Access → Result Place PageFault
-translated words root address access = then_place address access (walked words root (address / 4096))
+unfoldable pub translated : List ℕ → ℕ → ℕ → Access → Result PhysicalAddress PageFault
+translated words root address access = then_physical address access (walked words root (address / 4096))

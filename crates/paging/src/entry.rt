@@ -62,7 +62,7 @@ impl Entry {
             && self.flag(DIRTY)
     }
 
-    // The frame that it names.
+    // The frame that it references.
     pub fn frame(self) -> u32
         ensures { result ≡ frame_of self.0 }
     {

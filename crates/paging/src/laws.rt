@@ -1,6 +1,6 @@
 // What the definitions of this crate come to, owed by this function's contract.
 ghost use Rattle.paging.specs.Example.{Example};
-ghost use Rattle.paging.specs.Laws.{EntriesAddUp, LeavesNamed, Local, OneLeaf, PagesEnd, TablesDecide, TranslationsReach, WalksFind, WritesApart};
+ghost use Rattle.paging.specs.Laws.{EntriesAddUp, LeavesReferenced, Local, OneLeaf, PagesEnd, TablesDecide, TranslationsReach, WalksFind, WritesApart};
 
 pub fn laws()
     ensures entries { EntriesAddUp }
@@ -11,6 +11,6 @@ pub fn laws()
     ensures reads { Local }
     ensures tables { TablesDecide }
     ensures writes { WritesApart }
-    ensures named { LeavesNamed }
+    ensures referenced { LeavesReferenced }
     ensures example { Example }
 {}

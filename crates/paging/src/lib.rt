@@ -5,5 +5,5 @@ pub mod access;
 pub mod entry;
 pub mod laws;
 pub mod leaf;
-pub mod place;
+pub mod physical;
 pub mod walk;

@@ -9,7 +9,7 @@ use words::frames::{FRAME_WORDS, is_lent, read};
 
 pub const MOST_FRAMES: u32 = 256;
 // A table fills a frame.
-pub const ENTRIES: u32 = FRAME_WORDS as u32;
+pub const TABLE_ENTRIES: u32 = FRAME_WORDS as u32;
 
 // Whether a walk may go to the frame: it is below 256, and all of its words are lent.
 fn has_frame(words: &[u32], frame: u32) -> bool
@@ -21,7 +21,7 @@ fn has_frame(words: &[u32], frame: u32) -> bool
 fn table_at(words: &[u32], root: u32, high: u32) -> Option<u32>
     ensures { result ≡ table_at words.now root high }
 {
-    if high >= ENTRIES || !has_frame(words, root) {
+    if high >= TABLE_ENTRIES || !has_frame(words, root) {
         return None;
     }
     let entry = Entry(read(words, root, high));
@@ -43,7 +43,7 @@ pub fn walk(words: &[u32], root: u32, page: u32) -> Option<Leaf>
     ensures value { result ≡ walked words.now root page }
     ensures finds { Finds words.now root page result }
 {
-    let (high, low) = (page / ENTRIES, page % ENTRIES);
+    let (high, low) = (page / TABLE_ENTRIES, page % TABLE_ENTRIES);
     let table = table_at(words, root, high)?;
     leaf_at(words, table, low)
 }

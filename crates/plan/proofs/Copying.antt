@@ -4,7 +4,7 @@ use Rattle.std.proofs.lemmas.Bool.{cases_Bool, cases_lt, eq-eqb, eqb-true}
 use Rattle.std.proofs.lemmas.List.Elements.{Contains-append_left, Contains-push, Contains-push_cases}
 use Rattle.std.proofs.lemmas.List.Sums.{sum_by_push}
 use Rattle.costs.specs.Costs.{copied_word, worst_switch}
-use Rattle.words.specs.First.{count, most}
+use Rattle.ranges.specs.Questions.{count, most}
 use Rattle.plan.specs.declared.model.Plan.{Plan}
 use Rattle.plan.specs.Places.{channel, channels_out, leaves}
 use Rattle.plan.specs.Switch.{CopiesAreMessages, Copy, IsMessage, copies, copy_cycles, message, messages}

@@ -3,8 +3,8 @@ use Rattle.std.proofs.Common.{◌≡◌, ℕ, zero, suc, ◌+◌, ◌<◌, ◌�
 use Rattle.std.proofs.lemmas.Bool.{leb-true}
 use Rattle.std.proofs.lemmas.Bool.Decides.{nat_tests}
 use Rattle.costs.specs.Costs.{worst_switch}
-use Rattle.words.specs.First.{first, most}
-use Rattle.words.proofs.First.{most_bound, none_below}
+use Rattle.ranges.specs.Questions.{first, most}
+use Rattle.ranges.proofs.Questions.{most_bound, none_below}
 use Rattle.plan.specs.declared.model.Plan.{Plan}
 use Rattle.plan.specs.declared.refusal.Count.{Count}
 use Rattle.plan.specs.declared.refusal.Count.TheVariants.{Partitions, Slots, Channels}
@@ -23,8 +23,8 @@ passed kept e h = grind arith
 pub failed : (kept : Bool) (e d : Refusal) → broken_unless kept e ≡ Some d → (kept ≡ false) × (d ≡ e)
 failed kept e d h = grind arith
 
-pub named : Named
-named e = grind arith
+pub refusal_named : Named
+refusal_named e = grind arith
 
 pub all_ranked : AllRanked
 unfolding index_in
@@ -38,7 +38,7 @@ rank_tells e d = same_number (number_of e) (number_of d) (all_ranked e) (all_ran
 
 -- the refusal of a number, at its place
 pub at_number : (d : Refusal) (n : ℕ) → number_of d ≡ n → d ≡ refusal n (place_of d)
-at_number d n h = named d ∙ ap (λ m. refusal m (place_of d)) h
+at_number d n h = refusal_named d ∙ ap (λ m. refusal m (place_of d)) h
 
 pub count_decides : (p : Plan) (c : Count) → Decides (count_kept p.counts c) (CountFits p c)
 count_decides p Partitions = ((λ e. (grind (arith, nat_tests), grind (arith, nat_tests))), λ f. grind (arith, nat_tests))

@@ -1,8 +1,8 @@
 -- The test of flows decides them.
 use Rattle.std.proofs.Common.{◌≡◌, ℕ, true, ◌↔◌}
 use Rattle.std.proofs.lemmas.Bool.{and_from, and_parts, eq-eqb, eqb-true}
-use Rattle.words.specs.First.{any}
-use Rattle.words.proofs.First.{any_here, any_where}
+use Rattle.ranges.specs.Questions.{any}
+use Rattle.ranges.proofs.Questions.{any_here, any_where}
 use Rattle.plan.specs.declared.model.Plan.{Plan}
 use Rattle.plan.specs.Flows.{Flows, by_channel, leads}
 use Rattle.plan.specs.Places.{channel}

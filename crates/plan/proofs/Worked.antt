@@ -1,6 +1,6 @@
 -- The example plan, worked out.
 use Rattle.std.proofs.Common.{ℕ, ◌<◌, [], ◌∷◌, get_or, refl, arith}
-use Rattle.words.specs.First.{first, most}
+use Rattle.ranges.specs.Questions.{first, most}
 use Rattle.plan.specs.Format.{no_partition, no_slot, plan_of, rows}
 use Rattle.plan.specs.Switch.{messages}
 use Rattle.plan.specs.Timetable.{begins}

@@ -12,7 +12,7 @@ pub data Flows (p : Plan) (from to : ℕ) : Type 0 where
 abbrev pub Closed : Plan → (ℕ → Type 0) → Type 0
 Closed p A = (q r : ℕ) → Flows p q r → A r → A q
 
--- a row of flows leads from one partition to the other; a partition reaches itself
+-- a path of flows leads from one partition to the other; a partition reaches itself
 pub data Path (p : Plan) (from : ℕ) : ℕ → Type 0 where
   stays : Path p from from
   goes_on : (q r : ℕ) → Path p from q → Flows p q r → Path p from r

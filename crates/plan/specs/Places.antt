@@ -1,6 +1,6 @@
 -- What stands at a place of a plan.
 use Rattle.std.specs.Prelude.{ℕ, Bool, ◌==◌, slice_index_or}
-use Rattle.words.specs.First.{count}
+use Rattle.ranges.specs.Questions.{count}
 use Rattle.plan.specs.declared.model.Partition.{Partition}
 use Rattle.plan.specs.declared.model.Slot.{Slot}
 use Rattle.plan.specs.declared.model.Channel.{Channel}

@@ -1,7 +1,7 @@
 -- What a switch makes: the copies after a slot of a partition, the cycles that they take, and the budget that covers every switch.
 use Rattle.std.specs.Prelude.{◌≡◌, ℕ, zero, suc, ◌+◌, ◌*◌, ◌<◌, cond, ◌↔◌, List, [], ◌∷◌, ◌++◌, sum_by, Contains}
 use Rattle.costs.specs.Costs.{copied_word, worst_switch}
-use Rattle.words.specs.First.{most}
+use Rattle.ranges.specs.Questions.{most}
 use Rattle.plan.specs.declared.model.Endpoint.{Endpoint}
 use Rattle.plan.specs.declared.model.Plan.{Plan}
 use Rattle.plan.specs.Places.{channel, leaves}

@@ -1,6 +1,6 @@
 // Whether a plan ends where its bytes end.
 ghost use Rattle.std.specs.Prelude.{◌≡◌};
-ghost use Rattle.words.specs.First.{unless};
+ghost use Rattle.ranges.specs.Questions.{unless};
 ghost use Rattle.plan.specs.Rules.{surplus, truncated};
 
 use crate::model::Plan;

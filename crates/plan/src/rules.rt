@@ -1,6 +1,6 @@
 // The rules of a plan that need no memory.
 ghost use Rattle.std.specs.Prelude.{◌≡◌};
-ghost use Rattle.words.specs.First.{first, unless};
+ghost use Rattle.ranges.specs.Questions.{first, unless};
 ghost use Rattle.plan.specs.Rules.{budget_fault, channel, channel_fault, count_fault, partition, slot, slot_fault, start_fault};
 
 use crate::model::*;
@@ -16,7 +16,7 @@ const MOST_BUDGET: u32 = 100_000;
 
 impl Counts {
     // Whether each count is in its range.
-    #[tactic(auto, unfolding(words::specs::First::first))]
+    #[tactic(auto, unfolding(ranges::specs::Questions::first))]
     pub fn check(self) -> Result<(), Refusal>
         ensures { result ≡ unless (first (count_fault self) 3) tt }
     {

@@ -19,13 +19,13 @@ fn main(rt: HostRuntime) -> ExitCode {
 }
 
 fn check(rt: &HostRuntime) -> Result<(), Problem> {
-    let words = arguments(rt)?;
-    if PROGRAM.introduces(rt, &words)? {
+    let line = arguments(rt)?;
+    if PROGRAM.introduces(rt, &line)? {
         return Ok(());
     }
-    let plan = file_name(&words, 0, "PLAN")?;
-    let image = file_name(&words, 1, "IMAGE")?;
-    at_most(&words, 2)?;
+    let plan = file_name(&line, 0, "PLAN")?;
+    let image = file_name(&line, 1, "IMAGE")?;
+    at_most(&line, 2)?;
     let files = Files::read(rt, plan, image)?;
     admission::open(rt.alloc(), &files.plan, &files.image)??;
     Ok(println!(rt; "accepted")?)

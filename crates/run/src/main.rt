@@ -8,7 +8,7 @@ use console::slots::Slots;
 use hart::step::Core;
 use hart::stepper::Stepper;
 use kernel::report::Report;
-use separation::supervisor::Supervisor;
+use separation::session::Session;
 use std::io::{BufWriter, Write};
 use std::process::ExitCode;
 use std::{io, iter};
@@ -30,16 +30,16 @@ fn main(rt: HostRuntime) -> ExitCode {
 }
 
 fn run(rt: &HostRuntime) -> Result<(), Problem> {
-    let words = arguments(rt)?;
-    if PROGRAM.introduces(rt, &words)? {
+    let line = arguments(rt)?;
+    if PROGRAM.introduces(rt, &line)? {
         return Ok(());
     }
-    let plan = file_name(&words, 0, "PLAN")?;
-    let image = file_name(&words, 1, "IMAGE")?;
-    let slots = Slots::named(&words, 2)?;
+    let plan = file_name(&line, 0, "PLAN")?;
+    let image = file_name(&line, 1, "IMAGE")?;
+    let slots = Slots::named(&line, 2)?;
     let options = 2 + slots.width();
-    let last_only = is_word(&words, options, "--last");
-    at_most(&words, options + usize::from(last_only))?;
+    let last_only = is_word(&line, options, "--last");
+    at_most(&line, options + usize::from(last_only))?;
     let count = slots.count(rt)?;
     let files = Files::read(rt, plan, image)?;
     if last_only {
@@ -47,8 +47,8 @@ fn run(rt: &HostRuntime) -> Result<(), Problem> {
         return Ok(print_last(rt, whole.finished.last)?);
     }
     let mut opened = admission::open(rt.alloc(), &files.plan, &files.image)??;
-    let mut supervisor = Supervisor::start(opened.accepted);
-    Ok(print_slots(rt, &mut supervisor, &mut opened.words, count)?)
+    let mut session = Session::start(opened.accepted);
+    Ok(print_slots(rt, &mut session, &mut opened.words, count)?)
 }
 
 fn print_last(rt: &HostRuntime, last: Option<Report>) -> io::Result<()> {
@@ -60,13 +60,13 @@ fn print_last(rt: &HostRuntime, last: Option<Report>) -> io::Result<()> {
 
 fn print_slots(
     rt: &HostRuntime,
-    supervisor: &mut Supervisor,
+    session: &mut Session,
     lent: &mut [u32],
     count: u32,
 ) -> io::Result<()> {
     let mut out = BufWriter::new(rt.alloc(), rt.stdout())?;
     let mut stepper = Stepper::new(Core::new(0, 0));
-    let reports = iter::from_fn(|| supervisor.run_slot(lent, &mut stepper));
+    let reports = iter::from_fn(|| session.run_slot(lent, &mut stepper));
     for report in reports.take(count as usize) {
         writeln!(out, "{report}")?;
     }

@@ -2,8 +2,8 @@
 use Rattle.std.proofs.Common.{◌≡◌, ℕ, ◌<◌, Bool, true, false, List, Some, None, Err, Decides, Option, sym, refl, ap, subst, inl, inr, arith}
 use Rattle.std.proofs.lemmas.Bool.{cases_Bool}
 use Rattle.std.specs.Option.{option_or}
-use Rattle.words.specs.First.{any, first, unless}
-use Rattle.words.proofs.First.{any_here, below_none, first_stays}
+use Rattle.ranges.specs.Questions.{any, first, unless}
+use Rattle.ranges.proofs.Questions.{any_here, below_none, first_stays}
 use Rattle.plan.specs.declared.model.Endpoint.{Endpoint}
 use Rattle.plan.specs.declared.model.Plan.{Plan}
 use Rattle.plan.specs.declared.refusal.Refusal.{Refusal}
@@ -11,11 +11,11 @@ use Rattle.plan.specs.declared.refusal.Refusal.TheVariants.{ChannelPage, FrameSh
 use Rattle.plan.specs.Rules.{budget_fault, channel, channel_fault, count_fault, slot_fault, start_fault, surplus, truncated}
 use Rattle.checker.specs.declared.fault.Fault.{Fault}
 use Rattle.checker.specs.declared.fault.Fault.TheVariants.{Broken}
-use Rattle.checker.specs.declared.pages.Ends.{Ends}
+use Rattle.checker.specs.declared.pages.ChannelFrames.{ChannelFrames}
 use Rattle.checker.specs.Checked.{accepted, first_refusal}
 use Rattle.checker.specs.Faults.{refused_by, refused_with}
 use Rattle.checker.specs.Lawful.{AllLent, Apart, Formed, Joins, Leads, PagesFit, RootFits, Usable, root}
-use Rattle.checker.specs.Pages.{behind, end_frame, ends_fault, ends_refusal, meets, touch, touches}
+use Rattle.checker.specs.Pages.{channel_frames, end_frame, pages_fault, pages_refusal, meets, touch, touches}
 use Rattle.checker.specs.Roots.{root_kept, root_refusal}
 use Rattle.checker.specs.Sharing.{apart_kept, lent_kept, lent_refusal, share_refusal}
 use Rattle.checker.specs.Tables.{root_fault, table_refusal}
@@ -40,7 +40,7 @@ pub answers : {X : Type 0} (a : ℕ → Option X) (k n : ℕ) (e : X) → k < n 
 answers a k n e l before here = first_stays a k n e l (below_none a k before) here
 
 module _ (ws : List ℕ) (p : Plan) where
-  page_none : (k : ℕ) → PagesFit ws p k → ends_refusal ws p k ≡ None
+  page_none : (k : ℕ) → PagesFit ws p k → pages_refusal ws p k ≡ None
   page_none k h = rw (fit_none ws p k h) refl
 
   root_none : (k : ℕ) → RootFits ws p k → root_refusal ws p k ≡ None
@@ -57,21 +57,21 @@ module _ (ws : List ℕ) (p : Plan) where
   unfolding end_frame
   written_end end f h = rw (leads_looked ws (root p end.partition) end.page _ h) refl
 
-  pub receiver_fault : (k f : ℕ) → Usable ws p (channel p k).sender false f → end_frame ws p (channel p k).receiver true ≡ Err Broken → ends_fault ws p k ≡ Some Broken
-  unfolding ends_fault behind
+  pub receiver_fault : (k f : ℕ) → Usable ws p (channel p k).sender false f → end_frame ws p (channel p k).receiver true ≡ Err Broken → pages_fault ws p k ≡ Some Broken
+  unfolding pages_fault channel_frames
   receiver_fault k f u e = rw (usable_end ws p (channel p k).sender false f u, e) refl
 
   -- a channel with a frame behind a page of an earlier one
-  pub taken_fault_at : (k j : ℕ) → j < k → (a b : Ends) → Joins ws p k a → Joins ws p j b → touch a b ≡ true → ends_fault ws p k ≡ Some Broken
-  unfolding ends_fault meets
+  pub taken_fault_at : (k j : ℕ) → j < k → (a b : ChannelFrames) → Joins ws p k a → Joins ws p j b → touch a b ≡ true → pages_fault ws p k ≡ Some Broken
+  unfolding pages_fault meets
   taken_fault_at k j l a b ours theirs both =
-      let met : touches a (behind ws p j) ≡ true = rw (joins_behind ws p j b theirs) both in
+      let met : touches a (channel_frames ws p j) ≡ true = rw (joins_behind ws p j b theirs) both in
       rw (joins_behind ws p k a ours) (rw (any_here (meets ws p a) k j l met) refl)
 
   -- two channels that join frames of their own
-  pub two_apart : p.counts.channels ≡ 2 → {a b : Ends} → Joins ws p 0 a → Joins ws p 1 b → touch b a ≡ false → first (ends_refusal ws p) p.counts.channels ≡ None
-  unfolding any ends_fault meets first
-  two_apart many {a} {b} one other apart = subst (λ n. first (ends_refusal ws p) n ≡ None) (sym many) (simp (joins_behind ws p 0 a one, joins_behind ws p 1 b other, apart))
+  pub two_apart : p.counts.channels ≡ 2 → {a b : ChannelFrames} → Joins ws p 0 a → Joins ws p 1 b → touch b a ≡ false → first (pages_refusal ws p) p.counts.channels ≡ None
+  unfolding any pages_fault meets first
+  two_apart many {a} {b} one other apart = subst (λ n. first (pages_refusal ws p) n ≡ None) (sym many) (simp (joins_behind ws p 0 a one, joins_behind ws p 1 b other, apart))
 
 module _ (bytes ws : List ℕ) (p : Plan) where
   -- the verdict on the plan
@@ -79,7 +79,7 @@ module _ (bytes ws : List ℕ) (p : Plan) where
   Answered e = unless (first_refusal bytes ws p) (accepted ws p) ≡ Err e
 
   -- where the rules on frames are kept, its own decide
-  pub frames_kept : first (ends_refusal ws p) p.counts.channels ≡ None → ((k : ℕ) → k < p.counts.partitions → RootFits ws p k) →
+  pub frames_kept : first (pages_refusal ws p) p.counts.channels ≡ None → ((k : ℕ) → k < p.counts.partitions → RootFits ws p k) →
       (ok : (k : ℕ) → k < p.counts.partitions → Formed ws (root p k)) → ((k : ℕ) → k < p.counts.partitions → Apart ws p k) → AllLent ws p → first_refusal bytes ws p ≡ own_refusal bytes p
   unfolding first_refusal own_refusal
   frames_kept pages roots ok apart lent = rw (
@@ -93,17 +93,17 @@ module _ (bytes ws : List ℕ) (p : Plan) where
   module _ (own : own_refusal bytes p ≡ None) where
     -- the first rule on frames that refuses decides
     refused : (e : Refusal) →
-        option_or (first (ends_refusal ws p) p.counts.channels) (option_or (first (root_refusal ws p) p.counts.partitions) (option_or (first (table_refusal ws p) p.counts.partitions)
+        option_or (first (pages_refusal ws p) p.counts.channels) (option_or (first (root_refusal ws p) p.counts.partitions) (option_or (first (table_refusal ws p) p.counts.partitions)
         (option_or (first (share_refusal ws p) p.counts.partitions) (lent_refusal ws p)))) ≡ Some e → Answered e
     unfolding first_refusal own_refusal
     refused e asked = let z : own_refusal bytes p ≡ None = own in grind arith
 
-    pub page_refused : (k : ℕ) (f : Fault) → k < p.counts.channels → ((j : ℕ) → j < k → PagesFit ws p j) → ends_fault ws p k ≡ Some f → Answered (refused_with (ChannelPage k) f)
-    page_refused k f l before here = refused _ (rw (answers (ends_refusal ws p) k _ _ l (λ j b. page_none ws p j (before j b)) (ap (refused_by (ChannelPage k)) here)) refl)
+    pub page_refused : (k : ℕ) (f : Fault) → k < p.counts.channels → ((j : ℕ) → j < k → PagesFit ws p j) → pages_fault ws p k ≡ Some f → Answered (refused_with (ChannelPage k) f)
+    page_refused k f l before here = refused _ (rw (answers (pages_refusal ws p) k _ _ l (λ j b. page_none ws p j (before j b)) (ap (refused_by (ChannelPage k)) here)) refl)
 
     module _ (pages : (k : ℕ) → k < p.counts.channels → PagesFit ws p k) where
-      no_page : first (ends_refusal ws p) p.counts.channels ≡ None
-      no_page = below_none (ends_refusal ws p) p.counts.channels (λ k l. page_none ws p k (pages k l))
+      no_page : first (pages_refusal ws p) p.counts.channels ≡ None
+      no_page = below_none (pages_refusal ws p) p.counts.channels (λ k l. page_none ws p k (pages k l))
 
       pub root_refused : (k : ℕ) → k < p.counts.partitions → ((j : ℕ) → j < k → RootFits ws p j) → (RootFits ws p k → ⊥) → Answered (RootRule k)
       root_refused k l before not_fit =

@@ -8,7 +8,7 @@ use Rattle.paging.specs.Mapping.{InMemory, Pointer}
 use Rattle.plan.specs.declared.model.Endpoint.{Endpoint}
 use Rattle.plan.specs.declared.model.Plan.{Plan}
 use Rattle.plan.specs.Format.{plan_of, rows}
-use Rattle.checker.specs.declared.pages.Ends.{Ends}
+use Rattle.checker.specs.declared.pages.ChannelFrames.{ChannelFrames}
 use Rattle.checker.specs.Lawful.{Formed, Joins, Leads, Lent, PagesFit, RootFits, Usable, root}
 use Rattle.sample.specs.Memory.{Layout, memory, reads, runs, two, word_in, writes}
 use Rattle.sample.specs.Verdicts.{Free}
@@ -44,8 +44,8 @@ module _ {ws : List ℕ} {p : Plan} where
   pub receives : {end : Endpoint} {leaf : Leaf} → Leads ws (root p end.partition) end.page leaf → leaf.readable ≡ true → leaf.writable ≡ false → Usable ws p end true leaf.frame
   receives leads readable fixed = record { leaf = _; leads = leads; readable = readable; not_writable = λ e. fixed; frame_is = refl }
 
-  pub first_fits : {ends : Ends} → Joins ws p 0 ends → PagesFit ws p 0
-  first_fits joins = record { ends = _; joins = joins; alone = λ j b. absurd (omega arith) }
+  pub first_fits : {frames : ChannelFrames} → Joins ws p 0 frames → PagesFit ws p 0
+  first_fits joins = record { frames = _; joins = joins; alone = λ j b. absurd (omega arith) }
 
 -- the frames that the rule on channels' pages reads
 pub record Tabled (l : Layout) : Type 0 where

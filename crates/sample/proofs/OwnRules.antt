@@ -1,6 +1,6 @@
 -- Plans whose rules on frames are kept: their own rules decide.
 use Rattle.std.proofs.Common.{◌≡◌, ℕ, List, [], ◌∷◌, ◌++◌, Some, None, Ok, Err, refl, arith}
-use Rattle.words.specs.First.{first, most}
+use Rattle.ranges.specs.Questions.{first, most}
 use Rattle.plan.specs.declared.model.Channel.{Channel}
 use Rattle.plan.specs.declared.refusal.Refusal.{Refusal}
 use Rattle.plan.specs.declared.refusal.Refusal.TheVariants.{BudgetRule, StartMisaligned, Surplus}
@@ -8,7 +8,7 @@ use Rattle.plan.specs.Format.{plan_of, rows}
 use Rattle.plan.specs.Switch.{messages}
 use Rattle.checker.specs.Checked.{accepted, checked, first_refusal}
 use Rattle.checker.specs.Lawful.{Joins}
-use Rattle.checker.specs.Pages.{ends_refusal}
+use Rattle.checker.specs.Pages.{pages_refusal}
 use Rattle.sample.specs.Memory.{laid, memory}
 use Rattle.sample.specs.OwnRules.{OwnRules, both_out, each_way, plan_with}
 use Rattle.sample.specs.Verdicts.{here}
@@ -19,7 +19,7 @@ use Rattle.sample.proofs.Tables.{leads_16, leads_17}
 use Rattle.sample.proofs.Verdicts.{all_apart, all_lent, here_fits, spread}
 
 module _ (content : ℕ → ℕ → ℕ) (bytes : List ℕ) (is : Rooted (plan_of bytes) 3)
-    (pages : first (ends_refusal (memory here content) (plan_of bytes)) (plan_of bytes).counts.channels ≡ None) where
+    (pages : first (pages_refusal (memory here content) (plan_of bytes)) (plan_of bytes).counts.channels ≡ None) where
   own_decides : first_refusal bytes (memory here content) (plan_of bytes) ≡ own_refusal bytes (plan_of bytes)
   own_decides =
       let ws = memory here content in
@@ -43,7 +43,7 @@ unfolding plan_of rows
 longer_rooted = record { both = refl; first = refl; second = refl }
 
 module _ (content : ℕ → ℕ → ℕ) (budget : ℕ) where
-  each_way_pages : first (ends_refusal (memory here content) (plan_of (plan_with budget each_way))) (plan_of (plan_with budget each_way)).counts.channels ≡ None
+  each_way_pages : first (pages_refusal (memory here content) (plan_of (plan_with budget each_way))) (plan_of (plan_with budget each_way)).counts.channels ≡ None
   unfolding plan_of rows
   each_way_pages =
       let ws = memory here content in
@@ -54,7 +54,7 @@ module _ (content : ℕ → ℕ → ℕ) (budget : ℕ) where
       let other : Joins ws p 1 (record { sender = 5; receiver = 2 }) = record { sender = sends (leads_16 n (omega arith)) refl; receiver = receives (leads_16 m (omega arith)) refl refl } in
       two_apart ws p refl one other refl
 
-  both_out_pages : first (ends_refusal (memory here content) (plan_of (plan_with budget both_out))) (plan_of (plan_with budget both_out)).counts.channels ≡ None
+  both_out_pages : first (pages_refusal (memory here content) (plan_of (plan_with budget both_out))) (plan_of (plan_with budget both_out)).counts.channels ≡ None
   unfolding plan_of rows
   both_out_pages =
       let ws = memory here content in

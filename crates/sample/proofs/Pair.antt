@@ -2,7 +2,7 @@
 use Rattle.std.proofs.Common.{◌≡◌, ℕ, ◌<◌, ◌⊎◌, sym, refl, ◌∙◌, subst, inl, inr, arith}
 use Rattle.std.proofs.lemmas.Bool.{ne_eqb}
 use Rattle.words.specs.Frames.{word}
-use Rattle.paging.specs.Tables.{KernelFrame, Names}
+use Rattle.paging.specs.Tables.{PageTableFrame, References}
 use Rattle.sample.specs.Memory.{Layout, memory, word_in}
 use Rattle.sample.specs.Verdicts.{Agrees, Differs, Fits, here, there}
 use Rattle.sample.proofs.Laid.{mapped_0, word_at}
@@ -24,17 +24,17 @@ module _ (l m : Layout) (h : Fits l) (g : Fits m) (content other : ℕ → ℕ �
   data_same : (k : ℕ) → word_in m other 6 k ≡ word_in l content 6 k
   data_same k = rw (ne_eqb 6 m.table (λ e. g.table.1 (sym e)), ne_eqb 6 l.table (λ e. h.table.1 (sym e))) («data» k)
 
-  agree : (f : ℕ) → KernelFrame (memory l content) 0 f ⊎ Names (memory l content) 0 f → Same f
+  agree : (f : ℕ) → PageTableFrame (memory l content) 0 f ⊎ References (memory l content) 0 f → Same f
   agree f (inl kernel) = elim (its_kernel (mapped_0 l content h.enough) f kernel) [
     | inl e ↦ subst Same (sym e) (both 0 (omega arith) (λ k. refl))
     | inr e ↦ subst Same (sym e) (both 1 (omega arith) (λ k. refl))
   ]
-  agree f (inr named) = elim (its_frames (mapped_0 l content h.enough) f named) [
+  agree f (inr referenced) = elim (its_frames (mapped_0 l content h.enough) f referenced) [
     | inl e ↦ subst Same (sym e) (both 2 (omega arith) code_same)
     | inr e ↦ subst Same (sym e) (both 6 (omega arith) data_same)
   ]
 
-  same_word : (f k : ℕ) → KernelFrame (memory l content) 0 f ⊎ Names (memory l content) 0 f → k < 1024 → word (memory m other) f k ≡ word (memory l content) f k
+  same_word : (f k : ℕ) → PageTableFrame (memory l content) 0 f ⊎ References (memory l content) 0 f → k < 1024 → word (memory m other) f k ≡ word (memory l content) f k
   unfolding Same
   same_word f k own b = agree f own k b
 

@@ -1,10 +1,10 @@
 -- The sample with one rule broken, and what the checker answers.
 use Rattle.std.proofs.Common.{◌≡◌, ℕ, zero, suc, ◌<◌, ◌≤◌, true, false, List, Some, None, Err, refl, ◌∙◌, inl, inr, arith}
 use Rattle.std.proofs.lemmas.Bool.{ne_eqb}
-use Rattle.words.specs.First.{first, most}
+use Rattle.ranges.specs.Questions.{first, most}
 use Rattle.words.specs.Bytes.{number}
 use Rattle.words.specs.Frames.{word}
-use Rattle.words.proofs.First.{any_here}
+use Rattle.ranges.proofs.Questions.{any_here}
 use Rattle.paging.specs.Entries.{flag, is_valid}
 use Rattle.plan.specs.Switch.{messages}
 use Rattle.plan.specs.declared.model.Plan.{Plan}
@@ -117,7 +117,7 @@ module _ (content : ℕ → ℕ → ℕ) where
       share_refused two ws (plan_of two) own_kept.0 (pages l content h) (roots l content two_rooted (omega arith) (omega arith) few) (formed l content h two_rooted code) 1 (omega arith)
       (at_0 (Apart ws (plan_of two)) (apart_0 l h.enough two_rooted)) not_apart
 
-  -- the second names the first one's frame 2
+  -- the second references the first one's frame 2
   both_name : checked two (memory shared content) ≡ Err (FrameShared 1)
   unfolding plan_of rows
   both_name =
@@ -125,7 +125,7 @@ module _ (content : ℕ → ℕ → ℕ) where
       second_shares shared h (omega arith) (omega arith) (λ apart.
       apart 0 (omega arith) (inl (2, names_16 (mapped_1 shared content h), inl ((λ e. omega arith), names_16 (mapped_0 shared content (omega arith))))))
 
-  -- the second names frame 4, its table
+  -- the second references frame 4, its table
   names_own : checked two (memory own content) ≡ Err (FrameShared 1)
   unfolding plan_of rows
   names_own =

@@ -5,7 +5,7 @@ use Rattle.words.specs.Frames.{word}
 use Rattle.paging.specs.declared.leaf.Leaf.{Leaf}
 use Rattle.paging.specs.Entries.{flag, frame_of, is_valid}
 use Rattle.paging.specs.Mapping.{InMemory, LeafEntry, Pointer}
-use Rattle.paging.specs.Tables.{KernelFrame, Names, PointsTo}
+use Rattle.paging.specs.Tables.{PageTableFrame, References, PointsTo}
 use Rattle.checker.specs.Lawful.{Formed, Leads, TableFormed}
 use Rattle.sample.specs.Memory.{points_at, root_entry, table_entry}
 use Rattle.sample.proofs.Entries.{leaf_form, pointer}
@@ -53,24 +53,24 @@ module _ {ws : List ℕ} {r t : ℕ} {a b : Leaf} (m : Mapped ws r t a b) where
   its_table : (f : ℕ) → PointsTo ws r f → f ≡ t
   its_table f p = let e = root_at p.at p.within p.points.valid in let z = p.points.frame in omega arith
 
-  pub its_frames : (f : ℕ) → Names ws r f → (f ≡ a.frame) ⊎ (f ≡ b.frame)
+  pub its_frames : (f : ℕ) → References ws r f → (f ≡ a.frame) ⊎ (f ≡ b.frame)
   its_frames f n =
       let tb : n.table ≡ t = its_table n.table n.by in
-      let named : frame_of (word ws t n.at) ≡ f = subst (λ x. frame_of (word ws x n.at) ≡ f) tb n.names in
-      elim (table_at n.at n.within (subst (λ x. is_valid (word ws x n.at) ≡ true) tb n.valid)) [ inl x ↦ inl (sym named ∙ x.frame) | inr x ↦ inr (sym named ∙ x.frame) ]
+      let referenced : frame_of (word ws t n.at) ≡ f = subst (λ x. frame_of (word ws x n.at) ≡ f) tb n.references in
+      elim (table_at n.at n.within (subst (λ x. is_valid (word ws x n.at) ≡ true) tb n.valid)) [ inl x ↦ inl (sym referenced ∙ x.frame) | inr x ↦ inr (sym referenced ∙ x.frame) ]
 
-  pub its_kernel : (f : ℕ) → KernelFrame ws r f → (f ≡ r) ⊎ (f ≡ t)
+  pub its_kernel : (f : ℕ) → PageTableFrame ws r f → (f ≡ r) ⊎ (f ≡ t)
   its_kernel f (inl e) = inl e
   its_kernel f (inr p) = inr (its_table f p)
 
-  pub names_16 : Names ws r a.frame
+  pub names_16 : References ws r a.frame
   names_16 = record {
     table = t;
     by = record { at = 0; within = omega arith; points = its_pointer };
     at = 16;
     within = omega arith;
     valid = its_16.valid;
-    names = its_16.frame;
+    references = its_16.frame;
   }
 
   table_formed : a.frame < 256 → b.frame < 256 → TableFormed ws t

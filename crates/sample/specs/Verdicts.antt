@@ -7,7 +7,7 @@ use Rattle.plan.specs.Format.{plan_of}
 use Rattle.plan.specs.Switch.{required_budget}
 use Rattle.plan.specs.Written.{a_channel}
 use Rattle.checker.specs.Checked.{accepted, checked}
-use Rattle.checker.specs.Pages.{ends_at}
+use Rattle.checker.specs.Pages.{frames_at}
 use Rattle.sample.specs.Memory.{Layout, memory, planned, two, with_channels}
 
 -- a lent frame that is none of the first partition's, nor the second's root
@@ -27,7 +27,7 @@ pub record Fits (l : Layout) : Type 0 where
 -- the plan is accepted, and its channel joins the first partition's data to the second's mailbox
 pub record Stands (l : Layout) (content : ℕ → ℕ → ℕ) : Type 0 where
   pub verdict : checked two (memory l content) ≡ Ok (accepted (memory l content) (plan_of two))
-  pub joined : ends_at (accepted (memory l content) (plan_of two)).ends 0 ≡ record { sender = 6; receiver = l.mailbox }
+  pub joined : frames_at (accepted (memory l content) (plan_of two)).frames 0 ≡ record { sender = 6; receiver = l.mailbox }
 
 -- it is accepted wherever the second partition keeps its frames, and whatever the programs and their data are
 abbrev pub Accepts : Type 0
@@ -46,7 +46,7 @@ pub record Examples : Type 0 where
   pub one : (content : ℕ → ℕ → ℕ) → Stands here content
   pub other : (content : ℕ → ℕ → ℕ) → Stands there content
 
--- two memories whose programs and data of the first partition are the same agree on its root, its table and the frames that it names,
+-- two memories whose programs and data of the first partition are the same agree on its root, its table and the frames that it references,
 -- wherever the second partition keeps its frames
 abbrev pub Agrees : Type 0
 Agrees =
@@ -108,7 +108,7 @@ pub record Refuses : Type 0 where
   pub table_missing : (content : ℕ → ℕ → ℕ) → checked two (memory tableless content) ≡ Err FramesMissing
   -- without a channel the missing table is met in the turn of the rule on page tables
   pub table_unread : (content : ℕ → ℕ → ℕ) → checked (unjoined 3) (memory tableless content) ≡ Err FramesMissing
-  -- a partition names its own table, or an earlier one names its root, which is empty
+  -- a partition references its own table, or an earlier one references its root, which is empty
   pub names_own : (content : ℕ → ℕ → ℕ) → checked two (memory own content) ≡ Err (FrameShared 1)
   pub root_named : (content : ℕ → ℕ → ℕ) → ((k : ℕ) → content 2 k ≡ 0) → checked (unjoined 2) (memory here content) ≡ Err (FrameShared 1)
   -- one page for two channels, and a root with a leaf, the first partition's table

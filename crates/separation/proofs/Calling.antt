@@ -10,7 +10,7 @@ use Rattle.kernel.specs.declared.report.Report.{Report}
 use Rattle.hart.specs.Execution.{fresh}
 use Rattle.kernel.specs.Machine.{System, after_slot, after_slots, context_of, fresh_at, loaded, system}
 use Rattle.kernel.specs.Reports.{slot_report}
-use Rattle.separation.specs.declared.supervisor.Supervisor.{Supervisor}
+use Rattle.separation.specs.declared.session.Session.{Session}
 use Rattle.separation.specs.Agreement.{Agree, In}
 use Rattle.separation.specs.Calls.{Runs, SlotKeeps, SlotUnseen, Starts, WholeRun, finished, first, in_words, last_report, ready}
 use Rattle.separation.specs.Each.{LoadsAlike}
@@ -91,16 +91,16 @@ module _ (bytes words : List ℕ) (a : Accepted) (e : checked bytes words ≡ Ok
   }
 
 -- the end of a whole run
-module _ (a : Accepted) (words after : List ℕ) (v : Supervisor) (n i : ℕ) (last : Option Report) (all : i ≡ n) (same : v.accepted ≡ a)
+module _ (a : Accepted) (words after : List ℕ) (v : Session) (n i : ℕ) (last : Option Report) (all : i ≡ n) (same : v.accepted ≡ a)
     (system_now : in_words v after ≡ after_slots a i (first a words)) (last_now : last ≡ last_report a i (first a words)) where
   pub system_then : in_words v after ≡ after_slots a n (first a words)
   system_then = system_now ∙ ap (λ j. after_slots a j (first a words)) all
 
-  pub finished_value : record { supervisor = v; last = last } ≡ finished a words n
+  pub finished_value : record { session = v; last = last } ≡ finished a words n
   finished_value =
       let machine : v.machine ≡ (after_slots a n (first a words)).machine = ap (λ z. z.machine) system_then in
       let last_then : last ≡ last_report a n (first a words) = last_now ∙ ap (λ j. last_report a j (first a words)) all in
       rw (same, machine, last_then) refl
 
-  pub finished_promises : n < 2 ^ 32 → Runs a words n after (record { supervisor = v; last = last })
+  pub finished_promises : n < 2 ^ 32 → Runs a words n after (record { session = v; last = last })
   finished_promises room bytes e = record { sound = accepted_sound bytes words a e; system = system_then; promises = whole_run bytes words a e n room }

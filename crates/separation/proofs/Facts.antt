@@ -3,7 +3,7 @@ use Rattle.std.proofs.Common.{◌≡◌, ℕ, ◌*◌, ◌%◌, ◌<◌, ◌≤�
 use Rattle.std.proofs.lemmas.Nat.{mod_below}
 use Rattle.std.proofs.lemmas.Bool.{cases_lt, lt-ltb}
 use Rattle.words.specs.Frames.{lent}
-use Rattle.paging.specs.Tables.{Names, Owns}
+use Rattle.paging.specs.Tables.{References, Owns}
 use Rattle.paging.proofs.Agree.{leaves_named}
 use Rattle.plan.specs.declared.model.Endpoint.{Endpoint}
 use Rattle.plan.specs.declared.model.Plan.{Plan}
@@ -16,11 +16,11 @@ use Rattle.plan.specs.Timetable.{begins, slot_of}
 use Rattle.plan.proofs.Decides.{budget_covers}
 use Rattle.plan.proofs.Times.{bounded}
 use Rattle.checker.specs.declared.Accepted.{Accepted}
-use Rattle.checker.specs.declared.pages.Ends.{Ends}
+use Rattle.checker.specs.declared.pages.ChannelFrames.{ChannelFrames}
 use Rattle.checker.specs.Checked.{checked}
-use Rattle.checker.specs.Found.{Behind, Lawful, Separate, Sound}
+use Rattle.checker.specs.Found.{FrameOf, Lawful, Separate, Sound}
 use Rattle.checker.specs.Lawful.{Joins, Touch, root}
-use Rattle.checker.specs.Pages.{ends_at}
+use Rattle.checker.specs.Pages.{frames_at}
 use Rattle.checker.proofs.Joined.{joins_behind}
 use Rattle.checker.proofs.Judged.{accepted_separate, accepted_sound}
 use Rattle.checker.proofs.Leading.{leads_maps}
@@ -28,13 +28,13 @@ use Rattle.separation.proofs.Frames.{Kept, accepts_kept, maps_kept}
 use Rattle.separation.proofs.Steps.{SoundFrames, sound_kept}
 
 -- the partitions of a channel, and the frames that it joins
-pub record Joined (p : Plan) (ends : List Ends) (ws : List ℕ) : Type 0 where
+pub record Joined (p : Plan) (ends : List ChannelFrames) (ws : List ℕ) : Type 0 where
   pub sender_known : (k : ℕ) → k < p.counts.channels → (channel p k).sender.partition < p.counts.partitions
   pub receiver_known : (k : ℕ) → k < p.counts.channels → (channel p k).receiver.partition < p.counts.partitions
-  pub sender : (k : ℕ) → k < p.counts.channels → Behind ws p (channel p k).sender (ends_at ends k).sender
-  pub receiver : (k : ℕ) → k < p.counts.channels → Behind ws p (channel p k).receiver (ends_at ends k).receiver
+  pub sender : (k : ℕ) → k < p.counts.channels → FrameOf ws p (channel p k).sender (frames_at ends k).sender
+  pub receiver : (k : ℕ) → k < p.counts.channels → FrameOf ws p (channel p k).receiver (frames_at ends k).receiver
   -- no frame belongs to two channels
-  pub apart : (i j : ℕ) → i < p.counts.channels → j < p.counts.channels → i ≢ j → Touch (ends_at ends i) (ends_at ends j) → ⊥
+  pub apart : (i j : ℕ) → i < p.counts.channels → j < p.counts.channels → i ≢ j → Touch (frames_at ends i) (frames_at ends j) → ⊥
 
 -- what the plan says of time
 pub record Timely (p : Plan) : Type 0 where
@@ -44,18 +44,18 @@ pub record Timely (p : Plan) : Type 0 where
   pub covered : required_budget p ≤ p.budget
   pub bounded : (n : ℕ) → begins p n ≤ n * 1100000
 
-pub record Facts (p : Plan) (ends : List Ends) (ws : List ℕ) : Type 0 where
+pub record Facts (p : Plan) (ends : List ChannelFrames) (ws : List ℕ) : Type 0 where
   pub frames : SoundFrames p ws
   pub joined : Joined p ends ws
   pub timely : Timely p
 
-behind_kept : (p : Plan) (ws vs : List ℕ) → Kept p ws vs → (end : Endpoint) (f : ℕ) → end.partition < p.counts.partitions → Behind ws p end f → Behind vs p end f
+behind_kept : (p : Plan) (ws vs : List ℕ) → Kept p ws vs → (end : Endpoint) (f : ℕ) → end.partition < p.counts.partitions → FrameOf ws p end f → FrameOf vs p end f
 behind_kept p ws vs k end f l b = record { leaf = b.leaf; maps = maps_kept p ws vs k end.partition l end.page b.leaf b.maps; readable = b.readable; frame_is = b.frame_is }
 
-pub behind_names : (p : Plan) (ws : List ℕ) (end : Endpoint) (f : ℕ) → Behind ws p end f → Names ws (root p end.partition) f
-behind_names p ws end f b = subst (Names ws (root p end.partition)) b.frame_is (leaves_named ws (root p end.partition) end.page b.leaf b.maps)
+pub behind_names : (p : Plan) (ws : List ℕ) (end : Endpoint) (f : ℕ) → FrameOf ws p end f → References ws (root p end.partition) f
+behind_names p ws end f b = subst (References ws (root p end.partition)) b.frame_is (leaves_named ws (root p end.partition) end.page b.leaf b.maps)
 
-pub facts_kept : (p : Plan) (ends : List Ends) (ws vs : List ℕ) → Kept p ws vs → Facts p ends ws → Facts p ends vs
+pub facts_kept : (p : Plan) (ends : List ChannelFrames) (ws vs : List ℕ) → Kept p ws vs → Facts p ends ws → Facts p ends vs
 facts_kept p ends ws vs k h = let j = h.joined in record {
   frames = sound_kept p ws vs k h.frames;
   joined = record {
@@ -69,23 +69,23 @@ facts_kept p ends ws vs k h = let j = h.joined in record {
 }
 
 module _ (bytes ws : List ℕ) (a : Accepted) (sound : Sound bytes ws a) where
-  joins : (k : ℕ) → k < (plan_of bytes).counts.channels → Joins ws (plan_of bytes) k (ends_at a.ends k)
+  joins : (k : ℕ) → k < (plan_of bytes).counts.channels → Joins ws (plan_of bytes) k (frames_at a.frames k)
   joins k l = let c = sound.joins k l in record {
     sender = record { leaf = c.sender.leaf; leads = (leads_maps ws _ _ _).leads c.sender.maps; readable = c.sender.readable; not_writable = λ e. absurd (let z : ◌≡◌ {A = ℕ} 0 1 = cc in omega arith); frame_is = c.sender.frame_is };
     receiver = record { leaf = c.receiver.leaf; leads = (leads_maps ws _ _ _).leads c.receiver.maps; readable = c.receiver.readable; not_writable = λ e. c.only_read; frame_is = c.receiver.frame_is };
   }
 
-  fit_ends : (k : ℕ) (l : k < (plan_of bytes).counts.channels) → (sound.lawful.pages k l).ends ≡ ends_at a.ends k
+  fit_ends : (k : ℕ) (l : k < (plan_of bytes).counts.channels) → (sound.lawful.pages k l).frames ≡ frames_at a.frames k
   fit_ends k l =
-      let x = joins_behind ws (plan_of bytes) k (sound.lawful.pages k l).ends (sound.lawful.pages k l).joins in
-      let y = joins_behind ws (plan_of bytes) k (ends_at a.ends k) (joins k l) in
+      let x = joins_behind ws (plan_of bytes) k (sound.lawful.pages k l).frames (sound.lawful.pages k l).joins in
+      let y = joins_behind ws (plan_of bytes) k (frames_at a.frames k) (joins k l) in
       cc
 
-  later_apart : (i j : ℕ) → i < j → (l : j < (plan_of bytes).counts.channels) → Touch (ends_at a.ends j) (ends_at a.ends i) → ⊥
+  later_apart : (i j : ℕ) → i < j → (l : j < (plan_of bytes).counts.channels) → Touch (frames_at a.frames j) (frames_at a.frames i) → ⊥
   later_apart i j b l touch =
-      (sound.lawful.pages j l).alone i b (ends_at a.ends i) (joins i (omega arith)) (subst (λ z. Touch z (ends_at a.ends i)) (sym (fit_ends j l)) touch)
+      (sound.lawful.pages j l).alone i b (frames_at a.frames i) (joins i (omega arith)) (subst (λ z. Touch z (frames_at a.frames i)) (sym (fit_ends j l)) touch)
 
-touch_turned : (x y : Ends) → Touch x y → Touch y x
+touch_turned : (x y : ChannelFrames) → Touch x y → Touch y x
 touch_turned x y (inl e) = inl (sym e)
 touch_turned x y (inr (inl e)) = inr (inr (inl (sym e)))
 touch_turned x y (inr (inr (inl e))) = inr (inl (sym e))
@@ -100,7 +100,7 @@ lent_owned bytes ws law q f l (inl (inr t)) =
     lt-ltb _ _ (omega (arith, there, t.points.frame))
 lent_owned bytes ws law q f l (inr n) = lt-ltb _ _ (omega (arith, law.all_lent q f l n))
 
-facts_of : (bytes ws : List ℕ) (a : Accepted) → checked bytes ws ≡ Ok a → Facts (plan_of bytes) a.ends ws
+facts_of : (bytes ws : List ℕ) (a : Accepted) → checked bytes ws ≡ Ok a → Facts (plan_of bytes) a.frames ws
 facts_of bytes ws a e =
     let sound = accepted_sound bytes ws a e in
     let law = sound.lawful in
@@ -131,8 +131,8 @@ facts_of bytes ws a e =
       };
     }
 
-pub facts : (bytes ws : List ℕ) (a : Accepted) → checked bytes ws ≡ Ok a → Facts a.plan a.ends ws
-facts bytes ws a e = subst (λ q. Facts q a.ends ws) (sym (accepted_sound bytes ws a e).plan) (facts_of bytes ws a e)
+pub facts : (bytes ws : List ℕ) (a : Accepted) → checked bytes ws ≡ Ok a → Facts a.plan a.frames ws
+facts bytes ws a e = subst (λ q. Facts q a.frames ws) (sym (accepted_sound bytes ws a e).plan) (facts_of bytes ws a e)
 
 pub accepts_again : (bytes ws vs : List ℕ) (a : Accepted) → Kept a.plan ws vs → checked bytes ws ≡ Ok a → checked bytes vs ≡ Ok a
 accepts_again bytes ws vs a k e = accepts_kept bytes ws vs a (subst (λ q. Kept q ws vs) (accepted_sound bytes ws a e).plan k) e

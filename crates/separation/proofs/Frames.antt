@@ -4,7 +4,7 @@ use Rattle.words.specs.Frames.{lent, word}
 use Rattle.paging.specs.declared.leaf.Leaf.{Leaf}
 use Rattle.paging.specs.Entries.{frame_of}
 use Rattle.paging.specs.Mapping.{InMemory, Maps}
-use Rattle.paging.specs.Tables.{Names, SameTables}
+use Rattle.paging.specs.Tables.{References, SameTables}
 use Rattle.paging.proofs.Agree.{kernel_there, names_back, tables_back}
 use Rattle.plan.specs.declared.model.Endpoint.{Endpoint}
 use Rattle.plan.specs.declared.model.Plan.{Plan}
@@ -12,12 +12,12 @@ use Rattle.plan.specs.Format.{plan_of}
 use Rattle.plan.specs.Rules.{channel}
 use Rattle.plan.proofs.Rows.{rows_below}
 use Rattle.checker.specs.declared.Accepted.{Accepted}
-use Rattle.checker.specs.declared.pages.Ends.{Ends}
+use Rattle.checker.specs.declared.pages.ChannelFrames.{ChannelFrames}
 use Rattle.checker.specs.Checked.{accepted, checked}
 use Rattle.checker.specs.Found.{Lawful, Separate}
 use Rattle.checker.specs.Lawful.{Conflict, Formed, Joins, Leads, Lent, PagesFit, Usable, root}
-use Rattle.checker.specs.Pages.{ends_or_none, no_ends}
-use Rattle.checker.proofs.Joined.{ends_kept}
+use Rattle.checker.specs.Pages.{frames_or_none, no_frames}
+use Rattle.checker.proofs.Joined.{frames_kept}
 use Rattle.checker.proofs.Judged.{accepted_sound, lawful_accepted}
 use Rattle.checker.proofs.Leading.{leads_maps}
 
@@ -40,7 +40,7 @@ kept_back p ws vs k = record { as_many = sym k.as_many; tables = λ q l. tables_
 
 -- a change that leaves all frames but those of one partition leaves the tables of all
 pub others_kept : (p : Plan) (ws vs : List ℕ) (who : ℕ) → who < p.counts.partitions → Separate ws p →
-    ((f k : ℕ) → (Names ws (root p who) f → ⊥) → k < 1024 → word vs f k ≡ word ws f k) → length vs ≡ length ws → Kept p ws vs
+    ((f k : ℕ) → (References ws (root p who) f → ⊥) → k < 1024 → word vs f k ≡ word ws f k) → length vs ≡ length ws → Kept p ws vs
 others_kept p ws vs who kn sep others long =
     record { as_many = long; tables = λ q l f k o b. others f k (λ n. sep.hidden who q f kn l n o) b }
 
@@ -98,7 +98,7 @@ module _ (p : Plan) (ws vs : List ℕ) (kept : Kept p ws vs) where
   }
 
   -- channels between partitions of the plan
-  joins_kept : (k : ℕ) (ends : Ends) → (channel p k).sender.partition < p.counts.partitions → (channel p k).receiver.partition < p.counts.partitions → Joins ws p k ends → Joins vs p k ends
+  joins_kept : (k : ℕ) (ends : ChannelFrames) → (channel p k).sender.partition < p.counts.partitions → (channel p k).receiver.partition < p.counts.partitions → Joins ws p k ends → Joins vs p k ends
   joins_kept k ends a b j = record { sender = usable_kept (channel p k).sender false ends.sender a j.sender; receiver = usable_kept (channel p k).receiver true ends.receiver b j.receiver }
 
 -- the rules still hold, and the checker's answer is the same
@@ -114,8 +114,8 @@ module _ (bytes ws vs : List ℕ) (kept : Kept (plan_of bytes) ws vs) (law : Law
 
   pages : (k : ℕ) → k < (plan_of bytes).counts.channels → PagesFit vs (plan_of bytes) k
   pages k l = let f = law.pages k l in record {
-    ends = f.ends;
-    joins = joins_kept (plan_of bytes) ws vs kept k f.ends (sender_known k l) (receiver_known k l) f.joins;
+    frames = f.frames;
+    joins = joins_kept (plan_of bytes) ws vs kept k f.frames (sender_known k l) (receiver_known k l) f.joins;
     alone = λ j b others joins. f.alone j b others (joins_kept (plan_of bytes) vs ws back j others (sender_known j (omega arith)) (receiver_known j (omega arith)) joins);
   }
 
@@ -133,14 +133,14 @@ module _ (bytes ws vs : List ℕ) (kept : Kept (plan_of bytes) ws vs) (law : Law
     all_lent = λ k f l n. there (plan_of bytes) ws vs kept f (law.all_lent k f l (names_back ws vs (root (plan_of bytes) k) (kept.tables k l) f n));
   }
 
-  same_channel : (k : ℕ) → k < (plan_of bytes).counts.channels → ends_or_none vs (plan_of bytes) k ≡ ends_or_none ws (plan_of bytes) k
+  same_channel : (k : ℕ) → k < (plan_of bytes).counts.channels → frames_or_none vs (plan_of bytes) k ≡ frames_or_none ws (plan_of bytes) k
   same_channel k l = let f = law.pages k l in
-      ends_kept vs (plan_of bytes) k f.ends (joins_kept (plan_of bytes) ws vs kept k f.ends (sender_known k l) (receiver_known k l) f.joins)
-      ∙ sym (ends_kept ws (plan_of bytes) k f.ends f.joins)
+      frames_kept vs (plan_of bytes) k f.frames (joins_kept (plan_of bytes) ws vs kept k f.frames (sender_known k l) (receiver_known k l) f.joins)
+      ∙ sym (frames_kept ws (plan_of bytes) k f.frames f.joins)
 
   same_ends : accepted vs (plan_of bytes) ≡ accepted ws (plan_of bytes)
   same_ends =
-      let e = rows_below (ends_or_none vs (plan_of bytes)) (ends_or_none ws (plan_of bytes)) no_ends 16 (plan_of bytes).counts.channels (λ k room below. same_channel k below) in
+      let e = rows_below (frames_or_none vs (plan_of bytes)) (frames_or_none ws (plan_of bytes)) no_frames 16 (plan_of bytes).counts.channels (λ k room below. same_channel k below) in
       rw e
 
 pub accepts_kept : (bytes ws vs : List ℕ) (a : Accepted) → Kept (plan_of bytes) ws vs → checked bytes ws ≡ Ok a → checked bytes vs ≡ Ok a

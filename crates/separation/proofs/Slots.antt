@@ -4,25 +4,25 @@ use Rattle.std.proofs.lemmas.List.{get_or-set_other, get_or-set_same, length-set
 use Rattle.std.proofs.lemmas.Bool.{cond-true, eq-eqb}
 use Rattle.costs.specs.Costs.{worst_instruction}
 use Rattle.words.specs.Frames.{word}
-use Rattle.words.proofs.First.{count_at_most, most_bound}
+use Rattle.ranges.proofs.Questions.{count_at_most, most_bound}
 use Rattle.tables.specs.Cache.{dirty_at}
 use Rattle.tables.specs.First.{first_tables}
-use Rattle.tables.specs.Honest.{Honest}
-use Rattle.tables.proofs.Truth.{honesty}
+use Rattle.tables.specs.Coherent.{Coherent}
+use Rattle.tables.proofs.Truth.{coherence}
 use Rattle.paging.specs.Mapping.{Maps}
-use Rattle.paging.specs.Tables.{Names}
+use Rattle.paging.specs.Tables.{References}
 use Rattle.paging.proofs.Agree.{leaves_named, names_back}
 use Rattle.plan.specs.Places.{channel, leaves}
 use Rattle.plan.specs.Switch.{copies, copy_cycles, message}
 use Rattle.plan.proofs.Copying.{has_message}
 use Rattle.plan.specs.Timetable.{begins}
 use Rattle.checker.specs.declared.Accepted.{Accepted}
-use Rattle.checker.specs.Found.{Behind}
+use Rattle.checker.specs.Found.{FrameOf}
 use Rattle.checker.specs.Lawful.{root}
 use Rattle.hart.specs.Execution.{fresh}
 use Rattle.kernel.specs.Machine.{System, after_slot, can_run, coming, context_of, ended, entered, inside_after, slot_end, slot_ran}
 use Rattle.hart.specs.Moments.{begin, latest, until}
-use Rattle.kernel.specs.Switch.{ends_of, switch_work}
+use Rattle.kernel.specs.Switch.{frames_of, switch_work}
 use Rattle.kernel.proofs.Running.{until_least, until_most}
 use Rattle.kernel.proofs.Turning.{can, clock_below}
 use Rattle.separation.specs.Promises.{Confined, Executes, GoesOn, KeepsPromises, Messages, Progress, Rests, SlotPromises, TranslatesThroughout, runs}
@@ -33,7 +33,7 @@ use Rattle.separation.proofs.Frames.{Kept, kept_more}
 use Rattle.separation.proofs.Steps.{Good, Went, foreign, until_counted, until_goes_on, until_went}
 
 module _ (bytes : List ℕ) (a : Accepted) (s : System) (before : BeforeSlot bytes a s) where
-  pub known : Facts a.plan a.ends s.words
+  pub known : Facts a.plan a.frames s.words
   known = facts bytes s.words a before.accepts
 
   pub who_known : runs a s < a.plan.counts.partitions
@@ -43,7 +43,7 @@ module _ (bytes : List ℕ) (a : Accepted) (s : System) (before : BeforeSlot byt
   good = record {
     sound = known.frames;
     under = refl;
-    honest = subst (λ t. Honest t.tlb s.words (root a.plan (runs a s))) (sym before.tables) (honesty.first s.words (root a.plan (runs a s)));
+    coherent = subst (λ t. Coherent t.tlb s.words (root a.plan (runs a s))) (sym before.tables) (coherence.first s.words (root a.plan (runs a s)));
   }
 
   pub went : (n : ℕ) → Went a.plan (runs a s) (entered a.plan s).now (inside_after a.plan s n).now
@@ -53,8 +53,8 @@ module _ (bytes : List ℕ) (a : Accepted) (s : System) (before : BeforeSlot byt
   at_end : Went a.plan (runs a s) (entered a.plan s).now (ended a.plan s).now
   at_end = went (coming a.plan s.machine).length
 
-  pub end_facts : Facts a.plan a.ends (ended a.plan s).now.words
-  end_facts = facts_kept a.plan a.ends s.words (ended a.plan s).now.words at_end.kept known
+  pub end_facts : Facts a.plan a.frames (ended a.plan s).now.words
+  end_facts = facts_kept a.plan a.frames s.words (ended a.plan s).now.words at_end.kept known
 
   translates : TranslatesThroughout a s
   unfolding inside_after
@@ -64,11 +64,11 @@ module _ (bytes : List ℕ) (a : Accepted) (s : System) (before : BeforeSlot byt
       record {
         who = refl;
         under = w.good.under;
-        honest = w.good.honest;
-        reaches = λ page leaf m. subst (λ r. Names s.words r leaf.frame) (sym w.good.under)
+        coherent = w.good.coherent;
+        reaches = λ page leaf m. subst (λ r. References s.words r leaf.frame) (sym w.good.under)
             (names_back s.words x.now.words (root a.plan (runs a s)) (w.kept.tables (runs a s) who_known) leaf.frame
             (leaves_named x.now.words (root a.plan (runs a s)) page leaf (subst (λ r. Maps x.now.words r page leaf) w.good.under m)));
-        own = λ f j b ne. w.others f j (λ n. ne (subst (λ r. Names s.words r f) (sym w.good.under) n)) b;
+        own = λ f j b ne. w.others f j (λ n. ne (subst (λ r. References s.words r f) (sym w.good.under) n)) b;
       }
 
   -- the program begins where it was
@@ -85,7 +85,7 @@ module _ (bytes : List ℕ) (a : Accepted) (s : System) (before : BeforeSlot byt
     unfolding inside_after
     goes_on n =
         subst (λ k. GoesOn (slot_end a.plan s.machine) (inside_after a.plan s n) (inside_after a.plan s k)) (sym (add-one n))
-        (until_goes_on (slot_end a.plan s.machine) early n (entered a.plan s) (went n).good.honest)
+        (until_goes_on (slot_end a.plan s.machine) early n (entered a.plan s) (went n).good.coherent)
 
     -- the slot goes on to its end, and with its switch takes as long as the budget allows
     reached : slot_end a.plan s.machine ≤ (ended a.plan s).now.core.clock
@@ -150,7 +150,7 @@ module _ (bytes : List ℕ) (a : Accepted) (s : System) (before : BeforeSlot byt
       receiver_page = end_facts.joined.receiver;
       arrives = λ k j l sender b.
           let goes : leaves a.plan (runs a s) k ≡ true = eq-eqb (channel a.plan k).sender.partition (runs a s) sender in
-          ap (λ z. word z (ends_of a k).receiver j) words_are ∙ sent_there a (runs a s) a.plan.counts.channels (ended a.plan s).now.words (omega arith) end_facts k j l b goes;
+          ap (λ z. word z (frames_of a k).receiver j) words_are ∙ sent_there a (runs a s) a.plan.counts.channels (ended a.plan s).now.words (omega arith) end_facts k j l b goes;
       others = λ f j b none.
           ap (λ z. word z f j) words_are ∙ sent_others a (runs a s) a.plan.counts.channels (ended a.plan s).now.words f j b (λ k l goes.
           none (message a.plan k) (has_message a.plan (runs a s) k l goes));
@@ -172,8 +172,8 @@ module _ (bytes : List ℕ) (a : Accepted) (s : System) (before : BeforeSlot byt
       words = λ f j b o none.
           ap (λ z. word z f j) words_are
           ∙ sent_others a (runs a s) a.plan.counts.channels (ended a.plan s).now.words f j b (λ k lk goes e.
-          none (message a.plan k) (has_message a.plan (runs a s) k lk goes) (sym (is_receiver a.plan k lk s.words a.ends known q f l o e))
-          (subst (Behind s.words a.plan (channel a.plan k).receiver) (sym e) (known.joined.receiver k lk)))
+          none (message a.plan k) (has_message a.plan (runs a s) k lk goes) (sym (is_receiver a.plan k lk s.words a.frames known q f l o e))
+          (subst (FrameOf s.words a.plan (channel a.plan k).receiver) (sym e) (known.joined.receiver k lk)))
           ∙ at_end.others f j (foreign a.plan s.words q (runs a s) f known.frames.separate l who_known ne o) b;
     }
 

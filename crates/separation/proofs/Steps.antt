@@ -3,15 +3,15 @@ use Rattle.std.proofs.Common.{◌≡◌, ℕ, zero, suc, ◌+◌, ◌*◌, ◌<�
 use Rattle.std.proofs.lemmas.Bool.{cases_eq, cases_lt, le-ltb, lt-ltb}
 use Rattle.costs.specs.Costs.{worst_instruction}
 use Rattle.words.specs.Frames.{lent, word}
-use Rattle.paging.specs.Tables.{Names, Owns, SameTables}
+use Rattle.paging.specs.Tables.{References, Owns, SameTables}
 use Rattle.paging.proofs.Agree.{kernel_back, leaves_named, names_back, owns_back, owns_there}
-use Rattle.tables.specs.Honest.{Honest}
+use Rattle.tables.specs.Coherent.{Coherent}
 use Rattle.hart.specs.declared.context.State.{State}
 use Rattle.hart.specs.declared.context.State.TheVariants.{Ready, Stopped}
 use Rattle.hart.specs.Core.{stepped}
 use Rattle.hart.specs.Laws.{SameOwn, TablesApart}
 use Rattle.hart.proofs.Agreeing.{agreement}
-use Rattle.hart.proofs.Honesty.{stays_honest}
+use Rattle.hart.proofs.Coherence.{stays_coherent}
 use Rattle.hart.proofs.Own.{sees_own}
 use Rattle.hart.proofs.Stepping.{steps}
 use Rattle.hart.proofs.Writing.{writes_own}
@@ -40,10 +40,10 @@ sound_kept p ws vs k s = record {
   lent = λ q f l o. kept_lent p ws vs k f ∙ s.lent q f l (owns_back ws vs (root p q) (k.tables q l) f o);
 }
 
--- a frame of a partition is none that another names
-pub foreign : (p : Plan) (ws : List ℕ) (q who f : ℕ) → Separate ws p → q < p.counts.partitions → who < p.counts.partitions → q ≢ who → Owns ws (root p q) f → Names ws (root p who) f → ⊥
+-- a frame of a partition is none that another references
+pub foreign : (p : Plan) (ws : List ℕ) (q who f : ℕ) → Separate ws p → q < p.counts.partitions → who < p.counts.partitions → q ≢ who → Owns ws (root p q) f → References ws (root p who) f → ⊥
 foreign p ws q who f s lq lw ne (inl kernel) n = s.hidden who q f lw lq n kernel
-foreign p ws q who f s lq lw ne (inr names) n = ne (s.alone q who f lq lw names n)
+foreign p ws q who f s lq lw ne (inr references) n = ne (s.alone q who f lq lw references n)
 
 -- where the words of the members are the same, so are their tables
 pub tables_of : (p : Plan) (A : ℕ → Type 0) (ws vs : List ℕ) → SameWords p A ws vs → (q : ℕ) → q < p.counts.partitions → A q → SameTables ws vs (root p q)
@@ -53,11 +53,11 @@ tables_of p A ws vs same q known member f k kernel l = same q f k known member l
 pub record Good (p : Plan) (who : ℕ) (m : Moment) : Type 0 where
   pub sound : SoundFrames p m.words
   pub under : m.core.root ≡ root p who
-  pub honest : Honest m.core.tables.tlb m.words m.core.root
+  pub coherent : Coherent m.core.tables.tlb m.words m.core.root
 
 pub record Went (p : Plan) (who : ℕ) (x y : Moment) : Type 0 where
   pub good : Good p who y
-  pub others : (f k : ℕ) → (Names x.words (root p who) f → ⊥) → k < 1024 → word y.words f k ≡ word x.words f k
+  pub others : (f k : ℕ) → (References x.words (root p who) f → ⊥) → k < 1024 → word y.words f k ≡ word x.words f k
   pub kept : Kept p x.words y.words
 
 module _ (p : Plan) (who : ℕ) (kn : who < p.counts.partitions) where
@@ -66,16 +66,16 @@ module _ (p : Plan) (who : ℕ) (kn : who < p.counts.partitions) where
 
   step_went : (m : Moment) → Good p who m → Went p who m (next m)
   step_went m g =
-      let w = writes_own m.core m.words g.honest in
+      let w = writes_own m.core m.words g.coherent in
       let s = steps m.core m.words in
-      let others : (f k : ℕ) → (Names m.words (root p who) f → ⊥) → k < 1024 → word (next m).words f k ≡ word m.words f k = λ f k ne. w.others f k (λ n. ne (subst (λ r. Names m.words r f) g.under n)) in
+      let others : (f k : ℕ) → (References m.words (root p who) f → ⊥) → k < 1024 → word (next m).words f k ≡ word m.words f k = λ f k ne. w.others f k (λ n. ne (subst (λ r. References m.words r f) g.under n)) in
       let kept = others_kept p m.words (next m).words who kn g.sound.separate others s.as_many in
       record {
         good = record {
           sound = sound_kept p m.words (next m).words kept g.sound;
           under = s.root ∙ g.under;
-          honest = subst (Honest (next m).core.tables.tlb (next m).words) (sym s.root)
-              (stays_honest m.core m.words (subst (TablesApart m.words) (sym g.under) (λ f n k. g.sound.separate.hidden who who f kn kn n k)) g.honest);
+          coherent = subst (Coherent (next m).core.tables.tlb (next m).words) (sym s.root)
+              (stays_coherent m.core m.words (subst (TablesApart m.words) (sym g.under) (λ f n k. g.sound.separate.hidden who who f kn kn n k)) g.coherent);
         };
         others = others;
         kept = kept;
@@ -110,7 +110,7 @@ module _ (p : Plan) (who : ℕ) (kn : who < p.counts.partitions) where
     step_alike : (x y : Inside) → Good p who x.now → Good p who y.now → SameInside p A x y → SameInside p A (record x { now = next x.now }) (record y { now = next y.now })
     step_alike x y gx gy same =
         let o = own x.now.words y.now.words gx.sound gy.sound same.words in
-        let s = sees_own x.now.core x.now.words y.now.words gx.honest (subst (SameOwn x.now.words y.now.words) (sym gx.under) o) in
+        let s = sees_own x.now.core x.now.words y.now.words gx.coherent (subst (SameOwn x.now.words y.now.words) (sym gx.under) o) in
         let wx = step_went x.now gx in
         let wy = step_went y.now gy in
         let core : y.now.core ≡ x.now.core = rw (same.context, same.tables, same.under, same.clock) refl in
@@ -169,10 +169,10 @@ module _ (stop : ℕ) (early : stop ≤ latest) where
   goes : (m : Moment) → m.core.clock < stop → Moves m
   goes m l = moves m (omega arith)
 
-  pub until_goes_on : (n : ℕ) (x : Inside) → Honest (until stop n x.now).core.tables.tlb (until stop n x.now).words (until stop n x.now).core.root → GoesOn stop (onward stop n x) (onward stop (suc n) x)
-  until_goes_on n x honest =
+  pub until_goes_on : (n : ℕ) (x : Inside) → Coherent (until stop n x.now).core.tables.tlb (until stop n x.now).words (until stop n x.now).core.root → GoesOn stop (onward stop n x) (onward stop (suc n) x)
+  until_goes_on n x coherent =
       let y = until stop n x.now in
-      let same = agreement y.core y.words honest in
+      let same = agreement y.core y.words coherent in
       record {
         who = refl;
         executes = λ l ready. let e = until_last n x.now l in let g = goes y l in record {

@@ -7,7 +7,7 @@ use Rattle.plan.specs.declared.model.Plan.{Plan}
 use Rattle.plan.specs.Flows.{Closed, Path, stays, goes_on}
 use Rattle.plan.specs.Timetable.{slot_of}
 use Rattle.checker.specs.declared.Accepted.{Accepted}
-use Rattle.checker.specs.declared.pages.Ends.{Ends}
+use Rattle.checker.specs.declared.pages.ChannelFrames.{ChannelFrames}
 use Rattle.checker.specs.Lawful.{root}
 use Rattle.checker.proofs.Judged.{accepted_sound}
 use Rattle.kernel.specs.declared.machine.Machine.{Machine}
@@ -25,7 +25,7 @@ same_told : (m n : Machine) (x y : Inside) → m.turn ≡ n.turn → m.clock ≡
     x.now.core.context ≡ y.now.core.context → report_of m x ≡ report_of n y
 same_told m n x y e f g h i j = rw (e, f, g, h, i, j) refl
 
-module _ (bytes : List ℕ) (p : Plan) (ea eb : List Ends) (A : ℕ → Type 0) (closed : Closed p A) where
+module _ (bytes : List ℕ) (p : Plan) (ea eb : List ChannelFrames) (A : ℕ → Type 0) (closed : Closed p A) where
   module _ (s t : System) (rs : BeforeSlot bytes (with_ends p ea) s) (rt : BeforeSlot bytes (with_ends p eb) t) (same : Agree p A s t) where
     same_who : who_runs p t.machine ≡ who_runs p s.machine
     same_who = ap (λ n. (slot_of p n).partition) same.turn
@@ -163,8 +163,8 @@ module _ (bytes : List ℕ) (p : Plan) (ea eb : List Ends) (A : ℕ → Type 0) 
 pub unseen_by : (bytes : List ℕ) (a b : Accepted) (A : ℕ → Type 0) (s t : System) → Closed a.plan A → BeforeSlot bytes a s → BeforeSlot bytes b t → Agree a.plan A s t → Unseen a.plan A a b s t
 unseen_by bytes a b A s t closed rs rt same =
     let e : b.plan ≡ a.plan = (accepted_sound bytes t.words b rt.accepts).plan ∙ sym (accepted_sound bytes s.words a rs.accepts).plan in
-    let d : ◌≡◌ {A = Accepted} (record { plan = b.plan; ends = b.ends }) (record { plan = a.plan; ends = b.ends }) = ap (λ q. record { plan = q; ends = b.ends }) e in
-    subst (λ z. Unseen a.plan A a z s t) (sym d) (unseen bytes a.plan a.ends b.ends A closed s t rs (subst (λ z. BeforeSlot bytes z t) d rt) same)
+    let d : ◌≡◌ {A = Accepted} (record { plan = b.plan; frames = b.frames }) (record { plan = a.plan; frames = b.frames }) = ap (λ q. record { plan = q; frames = b.frames }) e in
+    subst (λ z. Unseen a.plan A a z s t) (sym d) (unseen bytes a.plan a.frames b.frames A closed s t rs (subst (λ z. BeforeSlot bytes z t) d rt) same)
 
 pub noninterference : Noninterference
 noninterference bytes a b A = unseen_by bytes a b (In A)
@@ -190,7 +190,7 @@ less_inside p A B x y inside same = record {
   words = λ q f k l m. same.words q f k l (inside q m);
 }
 
--- the partitions that no row of flows leads to from one are a closed set
+-- the partitions that no path of flows leads to from one are a closed set
 pub not_reached : NotReached
 not_reached bytes a b q r s t none rs rt same =
     let A : ℕ → Type 0 = λ x. Path a.plan q x → ⊥ in

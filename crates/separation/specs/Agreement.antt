@@ -12,7 +12,7 @@ use Rattle.kernel.specs.Reports.{slot_report}
 use Rattle.paging.specs.Tables.{Owns}
 use Rattle.separation.specs.Running.{BeforeSlot}
 
--- the words of every root, table and named frame of the members
+-- the words of every root, table and referenced frame of the members
 abbrev pub SameWords : Plan → (ℕ → Type 0) → List ℕ → List ℕ → Type 0
 SameWords p A ws vs = (q f k : ℕ) → q < p.counts.partitions → A q → k < 1024 → Owns ws (root p q) f → word vs f k ≡ word ws f k
 
@@ -68,7 +68,7 @@ AllBut q r = r ≡ q → ⊥
 abbrev pub Only : ℕ → ℕ → Type 0
 Only q r = r ≡ q
 
--- if no row of flows leads from q to r, nothing of q is ever seen by r: two systems that differ in q alone agree on r forever
+-- if no path of flows leads from q to r, nothing of q is ever seen by r: two systems that differ in q alone agree on r forever
 abbrev pub NotReached : Type 0
 NotReached =
     (bytes : List ℕ) (a b : Accepted) (q r : ℕ) (s t : System) → (Path a.plan q r → ⊥) → BeforeSlot bytes a s → BeforeSlot bytes b t → Agree a.plan (AllBut q) s t →

@@ -8,22 +8,22 @@ use Rattle.checker.specs.Found.{Sound}
 use Rattle.kernel.specs.declared.report.Report.{Report}
 use Rattle.kernel.specs.Machine.{System, after_slot, after_slots, loaded, system}
 use Rattle.kernel.specs.Reports.{slot_report}
-use Rattle.separation.specs.declared.supervisor.Supervisor.{Supervisor}
+use Rattle.separation.specs.declared.session.Session.{Session}
 use Rattle.separation.specs.declared.run.Finished.{Finished}
 use Rattle.separation.specs.Agreement.{Agree, In, SameReport, SameWords, StepByStep, Unseen}
 use Rattle.separation.specs.Promises.{SlotPromises}
 use Rattle.separation.specs.Running.{BeforeSlot, Running}
 
 -- an accepted plan before its first slot
-abbrev pub ready : Accepted → Supervisor
+abbrev pub ready : Accepted → Session
 ready a = record { accepted = a; machine = loaded a.plan }
 
--- the system of a supervisor in its words
-abbrev pub in_words : Supervisor → List ℕ → System
+-- the system of a session in its words
+abbrev pub in_words : Session → List ℕ → System
 in_words v words = system v.machine words
 
 -- in words with which the plan was accepted it is ready to run
-abbrev pub Starts : Accepted → Supervisor → Type 0
+abbrev pub Starts : Accepted → Session → Type 0
 Starts a v = (bytes words : List ℕ) → checked bytes words ≡ Ok a → Sound bytes words a × Running bytes a (in_words v words)
 
 -- one slot keeps every promise
@@ -49,7 +49,7 @@ last_report a (suc n) s = slot_report a.plan (after_slots a n s)
 -- a whole run of n slots
 abbrev pub finished : Accepted → List ℕ → ℕ → Finished
 finished a words n = record {
-  supervisor = record { accepted = a; machine = (after_slots a n (first a words)).machine };
+  session = record { accepted = a; machine = (after_slots a n (first a words)).machine };
   last = last_report a n (first a words);
 }
 
@@ -65,7 +65,7 @@ pub record WholeRun (bytes words : List ℕ) (n : ℕ) (a : Accepted) : Type 0 w
 -- a whole run: the rules are kept, the system at the end is that of so many slots, and the promises hold
 pub record RanWhole (bytes words : List ℕ) (n : ℕ) (a : Accepted) (after : List ℕ) (f : Finished) : Type 0 where
   pub sound : Sound bytes words a
-  pub system : in_words f.supervisor after ≡ after_slots a n (first a words)
+  pub system : in_words f.session after ≡ after_slots a n (first a words)
   pub promises : WholeRun bytes words n a
 
 -- so is every run of a plan in words with which it was accepted

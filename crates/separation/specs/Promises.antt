@@ -5,9 +5,9 @@ use Rattle.costs.specs.Cycles.{cycles}
 use Rattle.words.specs.Frames.{word}
 use Rattle.paging.specs.declared.leaf.Leaf.{Leaf}
 use Rattle.paging.specs.Mapping.{Maps}
-use Rattle.paging.specs.Tables.{Names, Owns}
+use Rattle.paging.specs.Tables.{References, Owns}
 use Rattle.tables.specs.First.{first_tables}
-use Rattle.tables.specs.Honest.{Honest}
+use Rattle.tables.specs.Coherent.{Coherent}
 use Rattle.hart.specs.declared.context.State.TheVariants.{Ready}
 use Rattle.hart.specs.Architecture.{architecture}
 use Rattle.hart.specs.Core.{stepped}
@@ -16,11 +16,11 @@ use Rattle.hart.specs.Moments.{Moment}
 use Rattle.plan.specs.Places.{channel}
 use Rattle.plan.specs.Switch.{Copy, copies}
 use Rattle.checker.specs.declared.Accepted.{Accepted}
-use Rattle.checker.specs.Found.{Behind}
+use Rattle.checker.specs.Found.{FrameOf}
 use Rattle.checker.specs.Lawful.{root}
 use Rattle.kernel.specs.Inside.{Inside}
 use Rattle.kernel.specs.Machine.{System, after_slot, coming, context_of, ended, inside_after, slot_end, who_runs}
-use Rattle.kernel.specs.Switch.{ends_of, switch_work}
+use Rattle.kernel.specs.Switch.{frames_of, switch_work}
 use Rattle.separation.specs.Running.{Running}
 
 -- the partition whose slot is to come
@@ -39,19 +39,19 @@ pub record Switches (a : Accepted) (s t : System) : Type 0 where
 -- at the slot's end the frames that a channel joins are those behind its pages. For each channel out of the partition whose slot it was, the receiver's frame then
 -- equals the sender's as it stood at the slot's end, and no word changes but in a frame that one of the switch's copies goes to
 pub record Messages (a : Accepted) (s t : System) : Type 0 where
-  pub sender_page : (k : ℕ) → k < a.plan.counts.channels → Behind (ended a.plan s).now.words a.plan (channel a.plan k).sender (ends_of a k).sender
-  pub receiver_page : (k : ℕ) → k < a.plan.counts.channels → Behind (ended a.plan s).now.words a.plan (channel a.plan k).receiver (ends_of a k).receiver
+  pub sender_page : (k : ℕ) → k < a.plan.counts.channels → FrameOf (ended a.plan s).now.words a.plan (channel a.plan k).sender (frames_of a k).sender
+  pub receiver_page : (k : ℕ) → k < a.plan.counts.channels → FrameOf (ended a.plan s).now.words a.plan (channel a.plan k).receiver (frames_of a k).receiver
   pub arrives : (k j : ℕ) → k < a.plan.counts.channels → (channel a.plan k).sender.partition ≡ runs a s → j < 1024 →
-      word t.words (ends_of a k).receiver j ≡ word (ended a.plan s).now.words (ends_of a k).sender j
+      word t.words (frames_of a k).receiver j ≡ word (ended a.plan s).now.words (frames_of a k).sender j
   pub others : (f j : ℕ) → j < 1024 →
-      ((c : Copy) → Contains (copies a.plan (runs a s)) c → f ≢ (ends_of a c.channel).receiver) →
+      ((c : Copy) → Contains (copies a.plan (runs a s)) c → f ≢ (frames_of a c.channel).receiver) →
       word t.words f j ≡ word (ended a.plan s).now.words f j
 
 -- of a partition that does not run, registers, counter and state stay, and every word of its frames, unless one of the switch's copies to it comes into that very frame
 pub record Confined (a : Accepted) (s t : System) (q : ℕ) : Type 0 where
   pub context : context_of t.machine q ≡ context_of s.machine q
   pub words : (f j : ℕ) → j < 1024 → Owns s.words (root a.plan q) f →
-      ((c : Copy) → Contains (copies a.plan (runs a s)) c → c.to.partition ≡ q → Behind s.words a.plan c.to f → ⊥) →
+      ((c : Copy) → Contains (copies a.plan (runs a s)) c → c.to.partition ≡ q → FrameOf s.words a.plan c.to f → ⊥) →
       word t.words f j ≡ word s.words f j
 
 -- a partition that runs after no step of the slot
@@ -92,13 +92,13 @@ pub record Executes (a : Accepted) (s t : System) : Type 0 where
   pub keeps : context_of t.machine (ended a.plan s).who ≡ (ended a.plan s).now.core.context
 
 -- after so many steps of the slot its partition runs, under its root: every entry of the TLB is what a walk would answer, every page leads to a frame that the tables
--- under the root named when the slot began, and no word has changed but in such frames
+-- under the root referenced when the slot began, and no word has changed but in such frames
 pub record Translates (a : Accepted) (s : System) (x : Inside) : Type 0 where
   pub who : x.who ≡ runs a s
   pub under : x.now.core.root ≡ root a.plan x.who
-  pub honest : Honest x.now.core.tables.tlb x.now.words x.now.core.root
-  pub reaches : (page : ℕ) (leaf : Leaf) → Maps x.now.words x.now.core.root page leaf → Names s.words x.now.core.root leaf.frame
-  pub own : (f j : ℕ) → j < 1024 → (Names s.words x.now.core.root f → ⊥) → word x.now.words f j ≡ word s.words f j
+  pub coherent : Coherent x.now.core.tables.tlb x.now.words x.now.core.root
+  pub reaches : (page : ℕ) (leaf : Leaf) → Maps x.now.words x.now.core.root page leaf → References s.words x.now.core.root leaf.frame
+  pub own : (f j : ℕ) → j < 1024 → (References s.words x.now.core.root f → ⊥) → word x.now.words f j ≡ word s.words f j
 
 abbrev pub TranslatesThroughout : Accepted → System → Type 0
 TranslatesThroughout a s = (n : ℕ) → Translates a s (inside_after a.plan s n)

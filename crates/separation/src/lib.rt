@@ -3,4 +3,4 @@
 
 pub mod promises;
 pub mod run;
-pub mod supervisor;
+pub mod session;

@@ -30,7 +30,7 @@ pub fn execution()
     ensures { Execution }
 {}
 
-// At all times of a slot every TLB entry is what a walk would answer, every page leads to a frame that the tables named when the
+// At all times of a slot every TLB entry is what a walk would answer, every page leads to a frame that the tables referenced when the
 // slot began, and no word changed but in such frames.
 #[tactic(auto, using(crate::proofs::Each::true_translation))]
 pub fn translation()
@@ -54,7 +54,7 @@ pub fn slots()
     ensures { KeepsPromises }
 {}
 
-// What happens outside of a closed set is never seen inside it; nor is what a partition does by one that no row of flows leads to.
+// What happens outside of a closed set is never seen inside it; nor is what a partition does by one that no path of flows leads to.
 pub fn noninterference()
     ensures sets { Noninterference }
     ensures pairs { NotReached }

@@ -3,7 +3,7 @@ ghost use Rattle.std.specs.Prelude.{◌≡◌};
 ghost use Rattle.kernel.specs.Machine.{after_slots};
 ghost use Rattle.separation.specs.Calls.{Runs, finished, first};
 
-use crate::supervisor::Supervisor;
+use crate::session::Session;
 use checker::Accepted;
 use hart::step::Core;
 use hart::stepper::Stepper;
@@ -12,7 +12,7 @@ use kernel::report::Report;
 // The machine after its last slot, and the report of that slot.
 #[derive(Clone, Copy)]
 pub struct Finished {
-    pub supervisor: Supervisor,
+    pub session: Session,
     pub last: Option<Report>,
 }
 
@@ -22,11 +22,11 @@ pub fn run(accepted: Accepted, words: &mut [u32], count: u32) -> Finished
     ensures words { words.new ≡ (after_slots accepted count (first accepted words.old)).words }
     ensures promises { Runs accepted words.old count words.new result }
 {
-    let mut supervisor = Supervisor::start(accepted);
+    let mut session = Session::start(accepted);
     let mut stepper = Stepper::new(Core::new(0, 0));
     let mut last = None;
     for _turn in 0..count {
-        last = supervisor.run_slot(words, &mut stepper);
+        last = session.run_slot(words, &mut stepper);
     }
-    Finished { supervisor, last }
+    Finished { session, last }
 }

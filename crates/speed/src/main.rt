@@ -43,12 +43,12 @@ fn main(rt: HostRuntime) -> ExitCode {
 }
 
 fn measure(rt: &HostRuntime) -> Result<(), Problem> {
-    let words = arguments(rt)?;
-    if PROGRAM.introduces(rt, &words)? {
+    let line = arguments(rt)?;
+    if PROGRAM.introduces(rt, &line)? {
         return Ok(());
     }
-    let word = argument(&words, 0, "N")?;
-    at_most(&words, 1)?;
+    let word = argument(&line, 0, "N")?;
+    at_most(&line, 1)?;
     let count = word
         .parse::<u64>()
         .map_err(|_| not_number(rt, "N", u64::MAX, word))?;

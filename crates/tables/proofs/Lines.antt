@@ -8,20 +8,20 @@ use Rattle.costs.specs.Costs.{cache_lines}
 use Rattle.costs.specs.Cycles.{cache_cycles}
 use Rattle.tables.specs.declared.cache.Cache.{Cache}
 use Rattle.tables.specs.declared.cache.Line.{Line}
-use Rattle.tables.specs.Cache.{accessed, empty_cache, has_tag, held, hits, is_dirty, line_of, place_of, renewed, tag_of}
+use Rattle.tables.specs.Cache.{accessed, empty_cache, has_tag, held, hits, is_dirty, line_of, index_of, renewed, tag_of}
 use Rattle.tables.specs.Rows.{Whole, dirty_in}
 use Rattle.tables.specs.History.{Conflict}
 use Rattle.tables.specs.Laws.{AccessCosts, ComesIn, FrameIsTag, FramesConflict}
 
 -- a line's place and tag make up its number
-pub one_line : (a b : ℕ) → place_of a ≡ place_of b → tag_of a ≡ tag_of b → a ≡ b
+pub one_line : (a b : ℕ) → index_of a ≡ index_of b → tag_of a ≡ tag_of b → a ≡ b
 one_line a b p t = omega arith
 
 -- one line is another, conflicts with it, or goes to another place
-pub meets : (a b : ℕ) → (a ≡ b) ⊎ (Conflict a b ⊎ (place_of b ≡ place_of a → ⊥))
+pub meets : (a b : ℕ) → (a ≡ b) ⊎ (Conflict a b ⊎ (index_of b ≡ index_of a → ⊥))
 meets a b = elim (cases_eq a b) [
   | inl e ↦ inl e
-  | inr ne ↦ elim (cases_eq (place_of b) (place_of a)) [ inl p ↦ inr (inl (sym p, ne)) | inr away ↦ inr (inr away) ]
+  | inr ne ↦ elim (cases_eq (index_of b) (index_of a)) [ inl p ↦ inr (inl (sym p, ne)) | inr away ↦ inr (inr away) ]
 ]
 
 -- a place holds one tag at most
@@ -36,15 +36,15 @@ renews false dirty store = refl
 
 module _ (cache : Cache) (line : ℕ) (store : Bool) where
   pub whole_accessed : Whole cache → Whole (accessed cache line store)
-  whole_accessed whole = length-set cache.lines (place_of line) (Some (renewed cache line store)) ∙ whole
+  whole_accessed whole = length-set cache.lines (index_of line) (Some (renewed cache line store)) ∙ whole
 
-  held_there : Whole cache → (other : ℕ) → place_of other ≡ place_of line → held (accessed cache line store) other ≡ Some (renewed cache line store)
+  held_there : Whole cache → (other : ℕ) → index_of other ≡ index_of line → held (accessed cache line store) other ≡ Some (renewed cache line store)
   held_there whole other p =
-      let room : place_of line < length cache.lines = omega (arith, mod_below line 64 (omega arith)) in
-      rw p (get_or-set_same cache.lines (place_of line) (Some (renewed cache line store)) None room)
+      let room : index_of line < length cache.lines = omega (arith, mod_below line 64 (omega arith)) in
+      rw p (get_or-set_same cache.lines (index_of line) (Some (renewed cache line store)) None room)
 
-  held_away : (other : ℕ) → (place_of other ≡ place_of line → ⊥) → held (accessed cache line store) other ≡ held cache other
-  held_away other away = get_or-set_other cache.lines (place_of line) (place_of other) (Some (renewed cache line store)) None away
+  held_away : (other : ℕ) → (index_of other ≡ index_of line → ⊥) → held (accessed cache line store) other ≡ held cache other
+  held_away other away = get_or-set_other cache.lines (index_of line) (index_of other) (Some (renewed cache line store)) None away
 
   pub hit_same : Whole cache → hits (accessed cache line store) line ≡ true
   hit_same whole = ap (has_tag (tag_of line)) (held_there whole line refl) ∙ eq-eqb (tag_of line) (tag_of line) refl
@@ -54,13 +54,13 @@ module _ (cache : Cache) (line : ℕ) (store : Bool) where
       ap (has_tag (tag_of other)) (held_there whole other (sym k.0))
       ∙ ne_eqb (tag_of line) (tag_of other) (λ t. k.1 (one_line line other k.0 t))
 
-  pub hit_away : (other : ℕ) → (place_of other ≡ place_of line → ⊥) → hits (accessed cache line store) other ≡ hits cache other
+  pub hit_away : (other : ℕ) → (index_of other ≡ index_of line → ⊥) → hits (accessed cache line store) other ≡ hits cache other
   hit_away other away = ap (has_tag (tag_of other)) (held_away other away)
 
   dirty_there : Whole cache → is_dirty (held (accessed cache line store) line) ≡ cond (hits cache line) (is_dirty (held cache line) || store) store
   dirty_there whole = ap is_dirty (held_there whole line refl)
 
-  pub dirty_away : (other : ℕ) → (place_of other ≡ place_of line → ⊥) → dirty_in (accessed cache line store) other ≡ dirty_in cache other
+  pub dirty_away : (other : ℕ) → (index_of other ≡ index_of line → ⊥) → dirty_in (accessed cache line store) other ≡ dirty_in cache other
   dirty_away other away = ap (λ o. has_tag (tag_of other) o && is_dirty o) (held_away other away)
 
   pub dirty_gone : Whole cache → (other : ℕ) → Conflict line other → dirty_in (accessed cache line store) other ≡ false
@@ -75,7 +75,7 @@ pub whole_empty : Whole empty_cache
 whole_empty = let none : Option Line = None in length-replicate cache_lines none
 
 pub held_empty : (line : ℕ) → held empty_cache line ≡ None
-held_empty line = let none : Option Line = None in get_or-replicate cache_lines (place_of line) none none (mod_below line 64 (omega arith))
+held_empty line = let none : Option Line = None in get_or-replicate cache_lines (index_of line) none none (mod_below line 64 (omega arith))
 
 -- what an access costs, by what its place holds
 priced : (hit dirty : Bool) → let cost = cache_cycles (cond hit Hit (cond dirty DirtyMiss Miss)) in (cost ≡ 0) ⊎ ((cost ≡ 20) ⊎ (cost ≡ 30))
@@ -87,7 +87,7 @@ pub access_costs : AccessCosts
 access_costs cache line = priced (hits cache line) (is_dirty (held cache line))
 
 pub frame_is_tag : FrameIsTag
-frame_is_tag place = record { at = omega arith; tag = omega arith }
+frame_is_tag physical = record { at = omega arith; tag = omega arith }
 
 pub comes_in : ComesIn
 comes_in cache line store whole =
@@ -96,12 +96,12 @@ comes_in cache line store whole =
 
 pub frames_conflict : FramesConflict
 frames_conflict cache from to whole o ne =
-    let place : place_of (line_of from) ≡ place_of (line_of to) = omega arith in
+    let physical : index_of (line_of from) ≡ index_of (line_of to) = omega arith in
     let apart : line_of from ≡ line_of to → ⊥ = λ e. ne (omega arith) in
     let next = accessed cache (line_of from) true in
-    let gone = hit_gone cache (line_of from) true whole (line_of to) (place, apart) in
+    let gone = hit_gone cache (line_of from) true whole (line_of to) (physical, apart) in
     let dirty : is_dirty (held next (line_of to)) ≡ true =
-    ap is_dirty (held_there cache (line_of from) true whole (line_of to) (sym place))
+    ap is_dirty (held_there cache (line_of from) true whole (line_of to) (sym physical))
     ∙ renews (hits cache (line_of from)) (is_dirty (held cache (line_of from))) true ∙ or_right (dirty_in cache (line_of from)) true refl in
     record {
       first = rw (gone, dirty) refl;

@@ -84,12 +84,12 @@ module _ (page : ℕ) where
         elim (cases_eq u.page page) [
           | inl e ↦ ((λ h. inl (e, g)), λ t. subst (λ (p : ℕ). is_known p (page_used tlb u) ≡ true) e there)
           | inr ne ↦ elim (cases_eq (entry_of page) (entry_of u.page)) [
-            | inl place ↦
+            | inl physical ↦
                 let gone : is_known page (page_used tlb u) ≡ false =
-                ap (λ at. is_some (leaf_for page (get_or (page_used tlb u).entries at None))) place
+                ap (λ at. is_some (leaf_for page (get_or (page_used tlb u).entries at None))) physical
                 ∙ one_page (get_or (page_used tlb u).entries (entry_of u.page) None) u.page page there ne in (
                   (λ h. absurd (both_ways (is_known page (page_used tlb u)) gone h)),
-                  λ t. absurd (elim t [ inl o ↦ ne o.0 | inr p ↦ p.1 (sym place, ne) g ]),
+                  λ t. absurd (elim t [ inl o ↦ ne o.0 | inr p ↦ p.1 (sym physical, ne) g ]),
                 )
             | inr away ↦
                 let now : is_known page (page_used tlb u) ≡ is_known page tlb = ap is_some (filled_away tlb u.page u.access (known tlb u.page) u.walk page away) in (

@@ -8,11 +8,11 @@ use Rattle.std.specs.List.{count_by}
 use Rattle.costs.specs.declared.used.CacheUse.TheVariants.{DirtyMiss, Hit, Miss}
 use Rattle.costs.specs.Costs.{cache_lines, miss, write_back}
 use Rattle.costs.specs.Cycles.{cache_cycles}
-use Rattle.words.specs.First.{count, weight}
-use Rattle.words.proofs.First.{count_change}
+use Rattle.ranges.specs.Questions.{count, weight}
+use Rattle.ranges.proofs.Questions.{count_change}
 use Rattle.tables.specs.declared.cache.Cache.{Cache}
 use Rattle.tables.specs.declared.cache.Line.{Line}
-use Rattle.tables.specs.Cache.{dirty_at, dirty_count, empty_cache, held, has_tag, hits, is_dirty, place_of, renewed, tag_of}
+use Rattle.tables.specs.Cache.{dirty_at, dirty_count, empty_cache, held, has_tag, hits, is_dirty, index_of, renewed, tag_of}
 use Rattle.tables.specs.Rows.{Use, Whole, after, fills, conflicts, dirty_in, evicts_dirty, evicts_dirty_line, makes_dirty, makes_line_dirty, row_cost, times, used}
 use Rattle.tables.specs.Laws.{Charges}
 use Rattle.tables.proofs.Lines.{dirty_away, dirty_gone, dirty_same, held_empty, meets, whole_accessed, whole_empty}
@@ -40,7 +40,7 @@ sums false false false now was e = omega arith
 
 all_lines : (cache : Cache) (u : Use) → Whole cache → weight (evicts_dirty cache u) 1 + dirty_count (used cache u) ≡ weight (makes_dirty cache u) 1 + dirty_count cache
 all_lines cache u whole =
-    let at = place_of u.line in
+    let at = index_of u.line in
     let new : Option Line = Some (renewed cache u.line u.store) in
     let inside : at < 64 = mod_below u.line 64 (omega arith) in
     let there : dirty_at (used cache u) at ≡ is_dirty new = ap is_dirty (get_or-set_same cache.lines at new None (omega arith)) in
@@ -80,7 +80,7 @@ one_line : (line : ℕ) (cache : Cache) (u : Use) → Whole cache →
 one_line line cache u whole = elim (meets u.line line) [
   | inl e ↦
       let is : eqb u.line line ≡ true = eq-eqb u.line line e in
-      let apart : conflicts u.line line ≡ false = and_right (eqb (place_of u.line) (place_of line)) (not (eqb u.line line)) (not_from_true (eqb u.line line) is) in
+      let apart : conflicts u.line line ≡ false = and_right (eqb (index_of u.line) (index_of line)) (not (eqb u.line line)) (not_from_true (eqb u.line line) is) in
       let now : dirty_in (used cache u) line ≡ (dirty_in cache line || u.store) =
       subst (λ (l : ℕ). dirty_in (used cache u) l ≡ (dirty_in cache l || u.store)) e (dirty_same cache u.line u.store whole) in
       let was : dirty_in cache u.line ≡ dirty_in cache line = ap (λ l. dirty_in cache l) e in
@@ -88,12 +88,12 @@ one_line line cache u whole = elim (meets u.line line) [
   | inr (inl k) ↦
       let not_is : eqb u.line line ≡ false = ne_eqb u.line line k.1 in
       let apart : conflicts u.line line ≡ true =
-      and_from (eqb (place_of u.line) (place_of line)) (not (eqb u.line line)) (eq-eqb (place_of u.line) (place_of line) k.0) (not_from_false (eqb u.line line) not_is) in
+      and_from (eqb (index_of u.line) (index_of line)) (not (eqb u.line line)) (eq-eqb (index_of u.line) (index_of line) k.0) (not_from_false (eqb u.line line) not_is) in
       rw (apart, dirty_gone cache u.line u.store whole line k, not_is) (gone_line (dirty_in cache line) (makes_dirty cache u))
   | inr (inr away) ↦
-      let not_is : eqb u.line line ≡ false = ne_eqb u.line line (λ e. away (ap place_of (sym e))) in
+      let not_is : eqb u.line line ≡ false = ne_eqb u.line line (λ e. away (ap index_of (sym e))) in
       let apart : conflicts u.line line ≡ false =
-      and_left (eqb (place_of u.line) (place_of line)) (not (eqb u.line line)) (ne_eqb (place_of u.line) (place_of line) (λ e. away (sym e))) in
+      and_left (eqb (index_of u.line) (index_of line)) (not (eqb u.line line)) (ne_eqb (index_of u.line) (index_of line) (λ e. away (sym e))) in
       rw (apart, dirty_away cache u.line u.store line away, not_is) (away_line (dirty_in cache line) (makes_dirty cache u))
 ]
 

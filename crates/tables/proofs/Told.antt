@@ -6,7 +6,7 @@ use Rattle.std.proofs.lemmas.Bool.Decides.{Decides-and, Decides-eqb, Decides-not
 use Rattle.costs.specs.Costs.{miss, write_back}
 use Rattle.tables.specs.declared.cache.Cache.{Cache}
 use Rattle.tables.specs.declared.cache.Line.{Line}
-use Rattle.tables.specs.Cache.{access_cost, empty_cache, has_tag, held, hits, is_dirty, place_of, tag_of}
+use Rattle.tables.specs.Cache.{access_cost, empty_cache, has_tag, held, hits, is_dirty, index_of, tag_of}
 use Rattle.tables.specs.Rows.{Use, Whole, after, conflicts, dirty_in, evicts_dirty_line, used}
 use Rattle.tables.specs.History.{Accesses, Apart, Conflict, Since, Stores}
 use Rattle.tables.specs.Laws.{Remembers, WriteBacks}
@@ -18,7 +18,7 @@ record Follows (so : Cache → ℕ → Bool) (Wanted : ℕ → Use → Type 0) :
   same : (cache : Cache) (u : Use) → Whole cache → Decides (so (used cache u) u.line) (Wanted u.line u ⊎ (so cache u.line ≡ true))
   own : (line : ℕ) (u : Use) → Wanted line u → u.line ≡ line
   gone : (cache : Cache) (u : Use) (line : ℕ) → Whole cache → Conflict u.line line → so (used cache u) line ≡ false
-  away : (cache : Cache) (u : Use) (line : ℕ) → (place_of line ≡ place_of u.line → ⊥) → so (used cache u) line ≡ so cache line
+  away : (cache : Cache) (u : Use) (line : ℕ) → (index_of line ≡ index_of u.line → ⊥) → so (used cache u) line ≡ so cache line
   empty : (line : ℕ) → so empty_cache line ≡ false
 
 module _ (so : Cache → ℕ → Bool) (Wanted : ℕ → Use → Type 0) (follows : Follows so Wanted) (line : ℕ) where
@@ -44,7 +44,7 @@ module _ (so : Cache → ℕ → Bool) (Wanted : ℕ → Use → Type 0) (follow
     | inr (inr away) ↦
         let now = follows.away cache u line away in (
           (λ h. inr (sym now ∙ h, λ k. away (sym k.0))),
-          λ t. elim t [ inl w ↦ absurd (away (ap place_of (sym (follows.own line u w)))) | inr p ↦ now ∙ p.0 ],
+          λ t. elim t [ inl w ↦ absurd (away (ap index_of (sym (follows.own line u w)))) | inr p ↦ now ∙ p.0 ],
         )
   ]
 
@@ -94,14 +94,14 @@ module _ (cache : Cache) (line : ℕ) where
   some_out : hits cache line ≡ false → is_dirty (held cache line) ≡ true → (other : ℕ) × Conflict line other × (dirty_in cache other ≡ true)
   some_out gone d =
       let h = holder (held cache line) d in
-      let other = h.0 * 64 + place_of line in
-      let place : place_of other ≡ place_of line = omega (arith, mod_below line 64 (omega arith)) in
+      let other = h.0 * 64 + index_of line in
+      let physical : index_of other ≡ index_of line = omega (arith, mod_below line 64 (omega arith)) in
       let tag : tag_of other ≡ h.0 = omega (arith, mod_below line 64 (omega arith)) in
-      let same : held cache other ≡ held cache line = ap (λ at. get_or cache.lines at None) place in
+      let same : held cache other ≡ held cache line = ap (λ at. get_or cache.lines at None) physical in
       let hit : hits cache other ≡ true = rw (same, tag) h.1 in
       let dirty : is_dirty (held cache other) ≡ true = ap is_dirty same ∙ d in (
         other,
-        (sym place, λ e. both_ways (hits cache line) gone (subst (λ (l : ℕ). hits cache l ≡ true) (sym e) hit)),
+        (sym physical, λ e. both_ways (hits cache line) gone (subst (λ (l : ℕ). hits cache l ≡ true) (sym e) hit)),
         and_from (hits cache other) (is_dirty (held cache other)) hit dirty,
       )
 
@@ -120,7 +120,7 @@ one_held None a b h k = cc
 one_held (Some line) a b h k = sym (eqb-true line.tag a h) ∙ eqb-true line.tag b k
 
 conflicts_tell : (a b : ℕ) → Decides (conflicts a b) (Conflict a b)
-conflicts_tell a b = Decides-and (eqb (place_of a) (place_of b)) (not (eqb a b)) (Decides-eqb (place_of a) (place_of b)) (Decides-not (eqb a b) (Decides-eqb a b))
+conflicts_tell a b = Decides-and (eqb (index_of a) (index_of b)) (not (eqb a b)) (Decides-eqb (index_of a) (index_of b)) (Decides-not (eqb a b) (Decides-eqb a b))
 
 pub write_backs : WriteBacks
 write_backs cache u =
@@ -141,9 +141,9 @@ write_backs cache u =
       only = λ a b da db.
           let p = apart a da in
           let q = apart b db in
-          let place : place_of a ≡ place_of b = sym p.1.0 ∙ q.1.0 in
-          let same : held cache b ≡ held cache a = ap (λ at. get_or cache.lines at None) (sym place) in
-          one_line a b place (one_held (held cache a) (tag_of a) (tag_of b)
+          let physical : index_of a ≡ index_of b = sym p.1.0 ∙ q.1.0 in
+          let same : held cache b ≡ held cache a = ap (λ at. get_or cache.lines at None) (sym physical) in
+          one_line a b physical (one_held (held cache a) (tag_of a) (tag_of b)
           (and_parts (hits cache a) (is_dirty (held cache a)) p.0).0
           (ap (has_tag (tag_of b)) (sym same) ∙ (and_parts (hits cache b) (is_dirty (held cache b)) q.0).0));
     }

@@ -1,4 +1,4 @@
--- What a look-up gives, and an honest TLB.
+-- What a look-up gives, and an coherent TLB.
 use Rattle.std.proofs.Common.{◌≡◌, ℕ, zero, suc, ◌<◌, Bool, true, false, cond, eqb, List, length, get_or, replicate, is_some, Some, None, Option, sym, refl, ap, ◌∙◌, inl, inr, arith}
 use Rattle.std.proofs.lemmas.Nat.{mod_below}
 use Rattle.std.proofs.ByRecursion.{All-get_or, All-set, All-weaker}
@@ -11,13 +11,13 @@ use Rattle.costs.specs.Cycles.{walk_cycles}
 use Rattle.paging.specs.declared.access.Access.{Access}
 use Rattle.paging.specs.declared.leaf.Leaf.{Leaf}
 use Rattle.paging.specs.Accesses.{permitted}
-use Rattle.paging.specs.Walks.{then_place, translated, walked}
+use Rattle.paging.specs.Walks.{then_physical, translated, walked}
 use Rattle.tables.specs.declared.tlb.Lookup.{Lookup}
 use Rattle.tables.specs.declared.tlb.Tlb.{Tlb}
 use Rattle.tables.specs.declared.tlb.TlbEntry.{TlbEntry}
 use Rattle.tables.specs.Tlb.{entry_of, filled, filled_by, found, found_by, granted, hit, known, leaf_for, put, reply}
-use Rattle.tables.specs.Honest.{Honest, TrueEntry, Truthful, reached}
-use Rattle.tables.specs.Laws.{Honesty, LookUps}
+use Rattle.tables.specs.Coherent.{Coherent, TrueEntry, Truthful, reached}
+use Rattle.tables.specs.Laws.{Coherence, LookUps}
 
 module _ (access : Access) where
   found_cost : (o walk : Option Leaf) → walk_cycles (found_by access o walk).walked ≡ cond (is_some o) 0 page_walk
@@ -60,7 +60,7 @@ look_ups tlb page access walk = record {
 }
 
 -- a leaf that permits an access leads to the place that translation gives, any other to its fault
-through : (walked : Bool) (address : ℕ) (access : Access) (o : Option Leaf) → reached (reply walked (granted access o)) address access ≡ then_place address access o
+through : (walked : Bool) (address : ℕ) (access : Access) (o : Option Leaf) → reached (reply walked (granted access o)) address access ≡ then_physical address access o
 through walked address access None = refl
 through walked address access (Some leaf) = elim (cases_Bool (permitted leaf access)) [ inl e ↦ rw e refl | inr e ↦ rw e refl ]
 
@@ -75,27 +75,27 @@ module _ (words : List ℕ) (root page : ℕ) where
       let g = cond_some (eqb entry.page page) entry.leaf leaf e in
       ap (walked words root) (sym (eqb-true entry.page page g.0)) ∙ t ∙ ap Some g.1
 
-  module _ (tlb : Tlb) (honest : Honest tlb words root) where
+  module _ (tlb : Tlb) (coherent : Coherent tlb words root) where
     true_known : (leaf : Leaf) → known tlb page ≡ Some leaf → walked words root page ≡ Some leaf
     true_known leaf e = elim (cases_lt (entry_of page) (length tlb.entries)) [
-      | inl l ↦ true_leaf (get_or tlb.entries (entry_of page) None) leaf (All-get_or (TrueEntry words root) tlb.entries (entry_of page) None l honest) e
+      | inl l ↦ true_leaf (get_or tlb.entries (entry_of page) None) leaf (All-get_or (TrueEntry words root) tlb.entries (entry_of page) None l coherent) e
       | inr l ↦ true_leaf None leaf tt (sym (ap (leaf_for page) (get_or_past tlb.entries (entry_of page) None l)) ∙ e)
     ]
 
     module _ (access : Access) where
       true_found : (o : Option Leaf) → known tlb page ≡ o → (address : ℕ) →
-          reached (found_by access o (walked words root page)) address access ≡ then_place address access (walked words root page)
+          reached (found_by access o (walked words root page)) address access ≡ then_physical address access (walked words root page)
       true_found None is address = through true address access (walked words root page)
-      true_found (Some leaf) is address = through false address access (Some leaf) ∙ ap (then_place address access) (sym (true_known leaf is))
+      true_found (Some leaf) is address = through false address access (Some leaf) ∙ ap (then_physical address access) (sym (true_known leaf is))
 
-      true_put : (o : Option Leaf) → granted access (walked words root page) ≡ o → Honest (put tlb page o) words root
-      true_put None is = honest
+      true_put : (o : Option Leaf) → granted access (walked words root page) ≡ o → Coherent (put tlb page o) words root
+      true_put None is = coherent
       true_put (Some leaf) is =
-          All-set (TrueEntry words root) tlb.entries (entry_of page) (Some (record { page = page; leaf = leaf })) (granted_leaf access (walked words root page) leaf is) honest
+          All-set (TrueEntry words root) tlb.entries (entry_of page) (Some (record { page = page; leaf = leaf })) (granted_leaf access (walked words root page) leaf is) coherent
 
-      true_filled : (o : Option Leaf) → Honest (filled_by tlb page access o (walked words root page)) words root
+      true_filled : (o : Option Leaf) → Coherent (filled_by tlb page access o (walked words root page)) words root
       true_filled None = true_put (granted access (walked words root page)) refl
-      true_filled (Some leaf) = honest
+      true_filled (Some leaf) = coherent
 
       pub truthful : Truthful (filled tlb page access (walked words root page)) words root page access (found tlb page access (walked words root page))
       unfolding filled found translated
@@ -112,18 +112,18 @@ moved : (words others : List ℕ) (root : ℕ) → ((page : ℕ) → walked othe
 moved words others root same None t = t
 moved words others root same (Some entry) t = same entry.page ∙ t
 
-pub honesty : Honesty
-honesty = record {
+pub coherence : Coherence
+coherence = record {
   first = λ words root. all_none words root 16;
-  find = λ tlb words root page access honest. truthful words root page tlb honest access;
-  moves = λ tlb words others root same honest. All-weaker (TrueEntry words root) (TrueEntry others root) (moved words others root same) tlb.entries honest;
+  find = λ tlb words root page access coherent. truthful words root page tlb coherent access;
+  moves = λ tlb words others root same coherent. All-weaker (TrueEntry words root) (TrueEntry others root) (moved words others root same) tlb.entries coherent;
 }
 
 -- for what a look-up answers and leaves
 pub carried : (tlb after : Tlb) (words : List ℕ) (root page : ℕ) (access : Access) (lookup : Lookup) →
     lookup ≡ found tlb page access (walked words root page) → after ≡ filled tlb page access (walked words root page) →
-    Honest tlb words root → Truthful after words root page access lookup
-carried tlb after words root page access lookup e f honest = rw (e, f) (truthful words root page tlb honest access)
+    Coherent tlb words root → Truthful after words root page access lookup
+carried tlb after words root page access lookup e f coherent = rw (e, f) (truthful words root page tlb coherent access)
 
 -- a look-up that walks nothing fills nothing
 unwalked_by : (tlb : Tlb) (page : ℕ) (access : Access) (o walk : Option Leaf) → (found_by access o walk).walked ≡ false → filled_by tlb page access o walk ≡ tlb

@@ -4,27 +4,27 @@ use Rattle.costs.specs.declared.used.CacheUse.{CacheUse}
 use Rattle.costs.specs.declared.used.CacheUse.TheVariants.{DirtyMiss, Hit, Miss}
 use Rattle.costs.specs.Costs.{cache_lines}
 use Rattle.costs.specs.Cycles.{cache_cycles}
-use Rattle.words.specs.First.{count}
+use Rattle.ranges.specs.Questions.{count}
 use Rattle.paging.specs.declared.access.Access.{Access}
 use Rattle.paging.specs.declared.access.Access.TheVariants.{Fetch, Load, Store}
-use Rattle.paging.specs.declared.place.Place.{Place}
+use Rattle.paging.specs.declared.physical.PhysicalAddress.{PhysicalAddress}
 use Rattle.tables.specs.declared.cache.Cache.{Cache}
 use Rattle.tables.specs.declared.cache.Line.{Line}
 
 -- memory is words, 1,024 to a frame, and lines of 16 words, of which each has a number
-abbrev pub line_of : Place → ℕ
-line_of place = (place.frame * 1024 + place.offset % 4096 / 4) / 16
+abbrev pub line_of : PhysicalAddress → ℕ
+line_of physical = (physical.frame * 1024 + physical.offset % 4096 / 4) / 16
 
 -- where in the cache a line of memory goes, and the tag that tells it from the others that go there
-abbrev pub place_of : ℕ → ℕ
-place_of line = line % cache_lines
+abbrev pub index_of : ℕ → ℕ
+index_of line = line % cache_lines
 
 abbrev pub tag_of : ℕ → ℕ
 tag_of line = line / cache_lines
 
 -- what the cache holds where a line of memory goes
 abbrev pub held : Cache → ℕ → Option Line
-held cache line = slice_index_or cache.lines (place_of line) None
+held cache line = slice_index_or cache.lines (index_of line) None
 
 abbrev pub is_dirty : Option Line → Bool
 is_dirty None = false
@@ -56,7 +56,7 @@ abbrev pub renewed : Cache → ℕ → Bool → Line
 renewed cache line store = record { tag = tag_of line; dirty = cond (hits cache line) (is_dirty (held cache line) || store) store }
 
 abbrev pub accessed : Cache → ℕ → Bool → Cache
-accessed cache line store = record { lines = slice_set cache.lines (place_of line) (Some (renewed cache line store)) }
+accessed cache line store = record { lines = slice_set cache.lines (index_of line) (Some (renewed cache line store)) }
 
 -- a line of memory is in the cache, and an access to it costs nothing
 pub record AtHand (cache : Cache) (line : ℕ) : Type 0 where

@@ -4,7 +4,7 @@ use Rattle.costs.specs.Costs.{instruction, miss, page_walk, write_back}
 use Rattle.costs.specs.Cycles.{cycles, plain}
 use Rattle.paging.specs.declared.access.Access.{Access}
 use Rattle.paging.specs.declared.access.Access.TheVariants.{Load, Store}
-use Rattle.paging.specs.Accesses.{place_in}
+use Rattle.paging.specs.Accesses.{physical_in}
 use Rattle.paging.specs.Small.{mapped, with_page}
 use Rattle.paging.specs.Walks.{walked}
 use Rattle.tables.specs.declared.Tables.{Tables}
@@ -21,7 +21,7 @@ abbrev pub lookup : Tables → Access → ℕ → Lookup
 lookup tables access address = found tables.tlb (address / 4096) access (walked small 0 (address / 4096))
 
 abbrev pub line_at : Lookup → ℕ → ℕ
-line_at answer address = line_of (place_in (unwrap_or answer.frame 0) address)
+line_at answer address = line_of (physical_in (unwrap_or answer.frame 0) address)
 
 -- the cycles of a load or store whose code page is known, and the tables after it
 abbrev pub cost : Tables → Access → ℕ → ℕ

@@ -2,7 +2,7 @@
 use Rattle.std.specs.Prelude.{◌≡◌, ℕ, ◌+◌, true, List, ◌∷◌, ◌++◌, ◌≢◌}
 use Rattle.std.specs.List.{AllByRecursion}
 use Rattle.costs.specs.Costs.{miss, write_back}
-use Rattle.tables.specs.Cache.{place_of}
+use Rattle.tables.specs.Cache.{index_of}
 use Rattle.tables.specs.Rows.{Use}
 
 -- the row has something wanted, and after it only what leaves that as it is
@@ -16,7 +16,7 @@ pub record Since {U : Type 0} (Wanted Leaves : U → Type 0) (row : List U) : Ty
 
 -- two lines of memory that cannot be in the cache together
 abbrev pub Conflict : ℕ → ℕ → Type 0
-Conflict a b = (place_of a ≡ place_of b) × (a ≢ b)
+Conflict a b = (index_of a ≡ index_of b) × (a ≢ b)
 
 abbrev pub Apart : ℕ → Use → Type 0
 Apart line u = Conflict u.line line → ⊥

@@ -3,17 +3,17 @@ use Rattle.std.specs.Prelude.{◌≡◌, ℕ, ◌+◌, ◌-◌, ◌*◌, ◌/◌
 use Rattle.std.specs.List.{AllByRecursion}
 use Rattle.costs.specs.Costs.{miss, misprediction, page_walk, write_back}
 use Rattle.costs.specs.Cycles.{walk_cycles}
-use Rattle.words.specs.First.{weight}
+use Rattle.ranges.specs.Questions.{weight}
 use Rattle.paging.specs.declared.access.Access.{Access}
 use Rattle.paging.specs.declared.leaf.Leaf.{Leaf}
-use Rattle.paging.specs.declared.place.Place.{Place}
+use Rattle.paging.specs.declared.physical.PhysicalAddress.{PhysicalAddress}
 use Rattle.paging.specs.Walks.{walked}
 use Rattle.tables.specs.declared.cache.Cache.{Cache}
 use Rattle.tables.specs.declared.predictor.Predictor.{Predictor}
 use Rattle.tables.specs.declared.tlb.Tlb.{Tlb}
-use Rattle.tables.specs.Cache.{AtHand, access_cost, accessed, dirty_count, empty_cache, hits, line_of, place_of, tag_of}
+use Rattle.tables.specs.Cache.{AtHand, access_cost, accessed, dirty_count, empty_cache, hits, line_of, index_of, tag_of}
 use Rattle.tables.specs.History.{Costs, Resident, Stored}
-use Rattle.tables.specs.Honest.{Honest, Truthful}
+use Rattle.tables.specs.Coherent.{Coherent, Truthful}
 use Rattle.tables.specs.Pages.{Kept, PageUse, tlb_after}
 use Rattle.tables.specs.Predictor.{branch_cost, first_predictor, learned}
 use Rattle.tables.specs.Loops.{Branch, Taken, branch_costs, loop_and_again, loop_cost, taken_at}
@@ -26,12 +26,12 @@ AccessCosts = (cache : Cache) (line : ℕ) →
     (access_cost cache line ≡ 0) ⊎ ((access_cost cache line ≡ miss) ⊎ (access_cost cache line ≡ miss + write_back))
 
 -- a frame has as many lines as the cache, so a line's place in the cache is its place in its frame, and its tag is the frame
-pub record LineOfFrame (place : Place) : Type 0 where
-  pub at : place_of (line_of place) ≡ place.offset % 4096 / 64
-  pub tag : tag_of (line_of place) ≡ place.frame
+pub record LineOfFrame (physical : PhysicalAddress) : Type 0 where
+  pub at : index_of (line_of physical) ≡ physical.offset % 4096 / 64
+  pub tag : tag_of (line_of physical) ≡ physical.frame
 
 abbrev pub FrameIsTag : Type 0
-FrameIsTag = (place : Place) → LineOfFrame place
+FrameIsTag = (physical : PhysicalAddress) → LineOfFrame physical
 
 -- after an access its line is in the cache, and another access to it at once costs nothing
 abbrev pub ComesIn : Type 0
@@ -66,12 +66,12 @@ abbrev pub WriteBacks : Type 0
 WriteBacks = (cache : Cache) (u : Use) → WrittenBack cache u
 
 -- a store to a place of one frame, and a load from the same place of another: the load evicts the stored line, and costs nothing when repeated
-pub record Evicted (cache : Cache) (from to : Place) : Type 0 where
+pub record Evicted (cache : Cache) (from to : PhysicalAddress) : Type 0 where
   pub first : access_cost (accessed cache (line_of from) true) (line_of to) ≡ miss + write_back
   pub again : access_cost (accessed (accessed cache (line_of from) true) (line_of to) false) (line_of to) ≡ 0
 
 abbrev pub FramesConflict : Type 0
-FramesConflict = (cache : Cache) (from to : Place) → Whole cache → from.offset ≡ to.offset → (from.frame ≢ to.frame) → Evicted cache from to
+FramesConflict = (cache : Cache) (from to : PhysicalAddress) → Whole cache → from.offset ≡ to.offset → (from.frame ≢ to.frame) → Evicted cache from to
 
 -- from the first state, a branch that is taken n times in a row is mispredicted once, at the first turn;
 -- other branches may lie between, as long as each that has the same counter is taken too
@@ -89,7 +89,7 @@ LoopsLeft = (address n : ℕ) → branch_costs first_predictor (loop_and_again a
 
 -- what the counter at a place stands at
 abbrev pub counter_at : Predictor → ℕ → ℕ
-counter_at predictor place = slice_index predictor.counters place
+counter_at predictor physical = slice_index predictor.counters physical
 
 -- what a branch does, said by the places of the counters: the branch at an address has the one at a quarter of it, modulo 64.
 -- That goes one up, at most to 3, if the branch is taken, and one down, at least to 0, if it is not. The counters of all other addresses stay.
@@ -132,10 +132,10 @@ pub record PagesRemembered (row : List PageUse) : Type 0 where
 abbrev pub RemembersPages : Type 0
 RemembersPages = (row : List PageUse) → PagesRemembered row
 
--- an honest TLB answers what the page tables say, and stays honest as long as every walk stays the same
-pub record Honesty : Type 0 where
-  pub first : (words : List ℕ) (root : ℕ) → Honest empty_tlb words root
-  pub find : (tlb : Tlb) (words : List ℕ) (root page : ℕ) (access : Access) → Honest tlb words root →
+-- an coherent TLB answers what the page tables say, and stays coherent as long as every walk stays the same
+pub record Coherence : Type 0 where
+  pub first : (words : List ℕ) (root : ℕ) → Coherent empty_tlb words root
+  pub find : (tlb : Tlb) (words : List ℕ) (root page : ℕ) (access : Access) → Coherent tlb words root →
       Truthful (filled tlb page access (walked words root page)) words root page access (found tlb page access (walked words root page))
   pub moves : (tlb : Tlb) (words others : List ℕ) (root : ℕ) → ((page : ℕ) → walked others root page ≡ walked words root page) →
-      Honest tlb words root → Honest tlb others root
+      Coherent tlb words root → Coherent tlb others root

@@ -7,6 +7,6 @@ pub mod Rows
 pub mod History
 pub mod Pages
 pub mod Loops
-pub mod Honest
+pub mod Coherent
 pub mod Laws
 pub mod Example

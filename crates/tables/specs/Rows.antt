@@ -1,9 +1,9 @@
 -- Rows of loads and stores, one after the other, and what is charged for them.
 use Rattle.std.specs.Prelude.{◌≡◌, ℕ, ◌+◌, Bool, not, ◌&&◌, List, [], ◌∷◌, length, ◌==◌}
 use Rattle.costs.specs.Costs.{cache_lines}
-use Rattle.words.specs.First.{weight}
+use Rattle.ranges.specs.Questions.{weight}
 use Rattle.tables.specs.declared.cache.Cache.{Cache}
-use Rattle.tables.specs.Cache.{access_cost, accessed, held, hits, is_dirty, place_of}
+use Rattle.tables.specs.Cache.{access_cost, accessed, held, hits, is_dirty, index_of}
 
 -- a load or store, by the line of memory that it goes to
 pub record Use : Type 0 where
@@ -50,7 +50,7 @@ makes_dirty cache u = u.store && not (dirty_in cache u.line)
 
 -- two lines of memory that go to one place in the cache
 abbrev pub conflicts : ℕ → ℕ → Bool
-conflicts a b = place_of a == place_of b && not (a == b)
+conflicts a b = index_of a == index_of b && not (a == b)
 
 -- this very line is evicted dirty, or made dirty
 abbrev pub evicts_dirty_line : ℕ → Cache → Use → Bool

@@ -5,7 +5,7 @@ ghost use Rattle.tables.specs.Cache.{AtHand, access_use, accessed, dirty_count, 
 
 use costs::CACHE_LINES;
 use costs::used::CacheUse;
-use paging::place::Place;
+use paging::physical::PhysicalAddress;
 
 const LINES: usize = CACHE_LINES as usize;
 
@@ -41,13 +41,13 @@ impl Cache {
 
     // A load or a store: what the cache does.
     // A frame has as many lines as the cache, so the place of a line in the cache is its place in the frame, and the frame is its tag.
-    pub fn access(&mut self, place: Place, store: bool) -> CacheUse
-        ensures does { result ≡ access_use self.old (line_of place) }
-        ensures after { self.new ≡ accessed self.old (line_of place) store }
-        ensures there { AtHand self.new (line_of place) }
+    pub fn access(&mut self, physical: PhysicalAddress, store: bool) -> CacheUse
+        ensures does { result ≡ access_use self.old (line_of physical) }
+        ensures after { self.new ≡ accessed self.old (line_of physical) store }
+        ensures there { AtHand self.new (line_of physical) }
     {
-        let at = (place.offset / LINE_BYTES) as usize % LINES;
-        let tag = place.frame;
+        let at = (physical.offset / LINE_BYTES) as usize % LINES;
+        let tag = physical.frame;
         let old = self.lines[at];
         match old {
             Some(line) if line.tag == tag => {

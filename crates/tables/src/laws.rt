@@ -1,6 +1,6 @@
 // What the definitions of this crate come to, owed by this function's contract.
 ghost use Rattle.tables.specs.Example.{Example};
-ghost use Rattle.tables.specs.Laws.{AccessCosts, Charges, ComesIn, CountersStay, Counts, FrameIsTag, FramesConflict, Honesty, LookUps, LoopsLeft, LoopsPredicted, Remembers, RemembersPages, WriteBacks};
+ghost use Rattle.tables.specs.Laws.{AccessCosts, Charges, ComesIn, CountersStay, Counts, FrameIsTag, FramesConflict, Coherence, LookUps, LoopsLeft, LoopsPredicted, Remembers, RemembersPages, WriteBacks};
 
 pub fn laws()
     ensures costs { AccessCosts }
@@ -16,6 +16,6 @@ pub fn laws()
     ensures counters { CountersStay }
     ensures lookups { LookUps }
     ensures pages { RemembersPages }
-    ensures honesty { Honesty }
+    ensures coherence { Coherence }
     ensures example { Example }
 {}

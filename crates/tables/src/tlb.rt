@@ -2,14 +2,14 @@
 ghost use Rattle.std.specs.Prelude.{◌≡◌, None, Some, option_map};
 ghost use Rattle.std.specs.Option.{ForSome};
 ghost use Rattle.paging.specs.Walks.{walked};
-ghost use Rattle.tables.specs.Honest.{Honest, Truthful};
+ghost use Rattle.tables.specs.Coherent.{Coherent, Truthful};
 ghost use Rattle.tables.specs.Tlb.{empty_tlb, filled, found, granted, hit, put};
 
 use paging::access::Access;
 use paging::leaf::Leaf;
 use paging::walk::walk;
 
-const ENTRIES: usize = 16;
+const TLB_ENTRIES: usize = 16;
 
 // What is known of a page.
 #[derive(Clone, Copy)]
@@ -20,7 +20,7 @@ pub struct TlbEntry {
 
 #[derive(Clone, Copy)]
 pub struct Tlb {
-    entries: [Option<TlbEntry>; ENTRIES],
+    entries: [Option<TlbEntry>; TLB_ENTRIES],
 }
 
 // What a look-up comes to.
@@ -46,7 +46,7 @@ impl Tlb {
         ensures { result ≡ empty_tlb }
     {
         Tlb {
-            entries: [None; ENTRIES],
+            entries: [None; TLB_ENTRIES],
         }
     }
 
@@ -57,9 +57,9 @@ impl Tlb {
         ensures answer { result ≡ found self.old page access (walked words.now root page) }
         ensures after { self.new ≡ filled self.old page access (walked words.now root page) }
         ensures again { ForSome result.frame (λ frame. found self.new page access None ≡ hit frame) }
-        ensures honest { Honest self.old words.now root → Truthful self.new words.now root page access result }
+        ensures coherent { Coherent self.old words.now root → Truthful self.new words.now root page access result }
     {
-        let entry = self.entries[page as usize % ENTRIES];
+        let entry = self.entries[page as usize % TLB_ENTRIES];
         match entry {
             Some(entry) if entry.page == page && entry.leaf.permits(access) => Lookup {
                 frame: Some(entry.leaf.frame),
@@ -84,7 +84,7 @@ impl Tlb {
         ensures after { self.new ≡ put self.old page (granted access (walked words.now root page)) }
     {
         let leaf = walk(words, root, page).filter(|leaf| leaf.permits(access))?;
-        self.entries[page as usize % ENTRIES] = Some(TlbEntry { page, leaf });
+        self.entries[page as usize % TLB_ENTRIES] = Some(TlbEntry { page, leaf });
         Some(leaf.frame)
     }
 }

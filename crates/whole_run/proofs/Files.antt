@@ -16,7 +16,7 @@ pub ran : (bytes image words : List ℕ) (n : ℕ) (o : Opened) (w : Whole) → 
 ran bytes image words n o w opened here value after runs =
     let lent : words ≡ image_words image = here ∙ opened.words in
     let is : w.finished ≡ finished o.accepted (image_words image) n = value ∙ ap (λ ws. finished o.accepted ws n) lent in
-    let who : o.accepted ≡ w.finished.supervisor.accepted = sym (ap (λ (f : Finished). f.supervisor.accepted) is) in
+    let who : o.accepted ≡ w.finished.session.accepted = sym (ap (λ (f : Finished). f.session.accepted) is) in
     let judged : checked bytes words ≡ Ok o.accepted = subst (λ ws. checked bytes ws ≡ Ok o.accepted) (sym here) opened.judged in
     record {
       admitted = subst (λ a. Admits bytes (image_words image) image (Ok a)) who opened.admits;

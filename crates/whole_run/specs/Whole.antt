@@ -9,10 +9,10 @@ use Rattle.whole_run.specs.declared.Whole.{Whole}
 
 -- the plan is accepted with its image, the machine and the words are those of so many slots, and every promise of a whole run holds of them
 pub record RanFiles (bytes image : List ℕ) (n : ℕ) (w : Whole) : Type 0 where
-  pub admitted : Admits bytes (image_words image) image (Ok w.finished.supervisor.accepted)
-  pub machine : w.finished ≡ finished w.finished.supervisor.accepted (image_words image) n
-  pub words : w.words.items ≡ (after_slots w.finished.supervisor.accepted n (first w.finished.supervisor.accepted (image_words image))).words
-  pub promises : RanWhole bytes (image_words image) n w.finished.supervisor.accepted w.words.items w.finished
+  pub admitted : Admits bytes (image_words image) image (Ok w.finished.session.accepted)
+  pub machine : w.finished ≡ finished w.finished.session.accepted (image_words image) n
+  pub words : w.words.items ≡ (after_slots w.finished.session.accepted n (first w.finished.session.accepted (image_words image))).words
+  pub promises : RanWhole bytes (image_words image) n w.finished.session.accepted w.words.items w.finished
 
 -- or it is refused, as the rules say
 abbrev pub RunsFiles : List ℕ → List ℕ → ℕ → Result Whole Refusal → Type 0

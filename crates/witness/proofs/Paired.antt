@@ -45,7 +45,7 @@ leads_second q r (by_channel k exists sends receives) =
     let only : k ≡ 0 = omega (arith, exists, channels_1) in
     sym receives ∙ ap (λ i. (channel (plan_of two) i).receiver.partition) only ∙ to_second
 
--- from the second partition a row of flows leads nowhere else
+-- from the second partition a path of flows leads nowhere else
 leads_nowhere : (r : ℕ) → Path (plan_of two) 1 r → r ≡ 1
 leads_nowhere r stays = refl
 leads_nowhere r (goes_on q t row flow) = leads_second q r flow
@@ -88,14 +88,14 @@ module _ (content other : ℕ → ℕ → ℕ) (code : (k : ℕ) → other 2 k �
     turn = refl;
   }
 
-  here_facts : Facts (plan_of two) (plan_in here content).ends (memory here content)
+  here_facts : Facts (plan_of two) (plan_in here content).frames (memory here content)
   here_facts = facts two (memory here content) (plan_in here content) (examples.one content).verdict
 
-  there_facts : Facts (plan_of two) (plan_in there other).ends (memory there other)
+  there_facts : Facts (plan_of two) (plan_in there other).frames (memory there other)
   there_facts = facts two (memory there other) (plan_in there other) (examples.other other).verdict
 
   apart : TablesApart (memory here content) (root (plan_of two) 1)
-  apart f names kernel = here_facts.frames.separate.hidden 1 1 f (omega (arith, two_partitions)) (omega (arith, two_partitions)) names kernel
+  apart f references kernel = here_facts.frames.separate.hidden 1 1 f (omega (arith, two_partitions)) (omega (arith, two_partitions)) references kernel
 
   same_own : SameOwn (memory here content) (memory there other) (root (plan_of two) 0)
   same_own = own (plan_of two) 0 (omega (arith, two_partitions)) (In first_alone) refl (memory here content) (memory there other) here_facts.frames there_facts.frames agree.words

@@ -36,10 +36,10 @@ pub record Pair (content other : ℕ → ℕ → ℕ) : Type 0 where
   pub lent_differ : length (system_in here content).words ≢ length (system_in there other).words
   -- a flow leads from the first partition to the second, and yet nothing of the second is seen by the first
   pub flow : Flows (plan_of two) 0 1
-  -- no row of flows leads back, and on all but the second partition the two agree
+  -- no path of flows leads back, and on all but the second partition the two agree
   pub no_row : Path (plan_of two) 1 0 → ⊥
   pub others_agree : Agree (plan_of two) (AllBut 1) (system_in here content) (system_in there other)
-  -- the second names no frame of its own root and table; the two memories are the same in all that the first has, and so on the way of every page's walk
+  -- the second references no frame of its own root and table; the two memories are the same in all that the first has, and so on the way of every page's walk
   pub apart : TablesApart (system_in here content).words (root (plan_of two) 1)
   pub same_own : SameOwn (system_in here content).words (system_in there other).words (root (plan_of two) 0)
   pub same_way : (high low : ℕ) → high < 1024 → low < 1024 → SameWay (system_in here content).words (system_in there other).words (root (plan_of two) 0) high low

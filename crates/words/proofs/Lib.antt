@@ -2,5 +2,3 @@
 pub mod Numbers
 pub mod Frame
 pub mod Signs
-pub mod First
-pub mod Chains

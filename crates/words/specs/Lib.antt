@@ -3,4 +3,3 @@ pub mod Bytes
 pub mod Bits
 pub mod Frames
 pub mod Laws
-pub mod First

@@ -15,7 +15,7 @@ use isa::alu::{offset_by, word_of};
 use isa::instruction::{Instruction, LoadWidth, StoreWidth};
 use isa::register::Register;
 use paging::access::Access;
-use paging::place::{PAGE_BYTES, Place};
+use paging::physical::{PAGE_BYTES, PhysicalAddress};
 use tables::tlb::Lookup;
 use words::frames;
 
@@ -65,8 +65,8 @@ impl Stepper {
             return used.cycles();
         };
         let offset = address % PAGE_BYTES;
-        let place = Place { frame, offset };
-        used.cache = self.core.tables.cache.access(place, false);
+        let physical = PhysicalAddress { frame, offset };
+        used.cache = self.core.tables.cache.access(physical, false);
         let cycles = used.cycles();
         let word = frames::read(words, frame, offset / 4);
         self.core
@@ -92,8 +92,8 @@ impl Stepper {
             return used.cycles();
         };
         let offset = address % PAGE_BYTES;
-        let place = Place { frame, offset };
-        used.cache = self.core.tables.cache.access(place, true);
+        let physical = PhysicalAddress { frame, offset };
+        used.cache = self.core.tables.cache.access(physical, true);
         let cycles = used.cycles();
         let old = frames::read(words, frame, offset / 4);
         frames::write(
@@ -126,7 +126,7 @@ impl Stepper {
         }
     }
 
-    // What the instruction asks for. One match over ten kinds, each arm a call: parts of it would be named by nothing.
+    // What the instruction asks for. One match over ten kinds, each arm a call: parts of it would be referenced by nothing.
     #[tactic(auto, using(crate::proofs::Stepping::load_words), unfolding(crate::specs::Core::executed))]
     fn execute(&mut self, instruction: Instruction, words: &mut [u32]) -> u32
         ensures cost { result ≡ cycles (execution_of self.old.core words.old instruction).used }

@@ -1,6 +1,6 @@
 -- What is left to show of `is_taken`.
 use Rattle.std.proofs.Common.{refl, rules}
-use Rattle.words.proofs.Chains.{any_over_range}
+use Rattle.ranges.proofs.Chains.{any_over_range}
 use Rattle.checker.specs.Pages.{meets}
 use Rattle.checker.proofs.pages.is_taken.Goals as goal
 

@@ -1,6 +1,6 @@
 -- What is left to show of `check_roots`.
 use Rattle.std.proofs.Common.{refl, rules}
-use Rattle.words.proofs.Chains.{first_over_range}
+use Rattle.ranges.proofs.Chains.{first_over_range}
 use Rattle.checker.specs.Roots.{root_refusal}
 use Rattle.checker.proofs.roots.check_roots.Goals as goal
 

@@ -1,6 +1,6 @@
 -- What is left to show of `root_is_taken`.
 use Rattle.std.proofs.Common.{refl, rules}
-use Rattle.words.proofs.Chains.{any_over_range}
+use Rattle.ranges.proofs.Chains.{any_over_range}
 use Rattle.checker.specs.Roots.{same_root}
 use Rattle.checker.proofs.roots.root_is_taken.Goals as goal
 

@@ -3,11 +3,11 @@ use Rattle.std.proofs.Common.{◌≡◌, false, ◌&&◌, ◌||◌, eqb, sym, ap
 use Rattle.std.proofs.lemmas.List.{get_or-replicate}
 use Rattle.std.proofs.lemmas.Bool.{true≢false}
 use Rattle.std.proofs.lemmas.Result.{err_from_is_err_and}
-use Rattle.words.specs.First.{any}
-use Rattle.words.proofs.First.{any_none, any_same, any_step, checked_more, checked_stops, first_none}
-use Rattle.checker.specs.Marks.{kernel_test, named_by, names, names_in, pointed, points}
+use Rattle.ranges.specs.Questions.{any}
+use Rattle.ranges.proofs.Questions.{any_none, any_same, any_step, checked_more, checked_stops, first_none}
+use Rattle.checker.specs.Marks.{is_page_table_frame, referenced_by, references, references_in, pointed, points}
 use Rattle.checker.specs.Tables.{entry_fault_at}
-use Rattle.checker.specs.Scaffold.{Shows, named_through}
+use Rattle.checker.specs.Scaffold.{Shows, referenced_through}
 use Rattle.checker.proofs.Marked.{named_none}
 use Rattle.checker.proofs.tables.check_entries.Goals as goal
 
@@ -32,16 +32,16 @@ loop-k-preserved c =
     let ok = c.in_ok-check_entry.was in (
       checked_more (entry_fault_at ws r) k tt c.in_ok-check_entry.field-0 c.loop-k.invariant.0 (sym c.check_entry.ensures.value ∙ ok),
       c.check_entry.ensures.gathered ok,
-      λ f l. c.check_entry.ensures.kernel ok f l ∙ ap (λ x. x || points ws r f k) (c.loop-k.invariant.2 f l) ∙ sym (any_step (points ws r f) k),
+      λ f l. c.check_entry.ensures.page_tables ok f l ∙ ap (λ x. x || points ws r f k) (c.loop-k.invariant.2 f l) ∙ sym (any_step (points ws r f) k),
     )
 
 pub returns-clause-claims : goal.returns-clause-claims
-unfolding names pointed kernel_test
+unfolding references pointed is_page_table_frame
 returns-clause-claims c =
     let ws = c.args.words.now in
     let r = c.args.root in
     let at : c.loop-k.k ≡ 1024 = omega arith in
-    let tables : Shows c.loop-k.claims.kernel (pointed ws r) = subst (λ n. Shows c.loop-k.claims.kernel (λ f. any (points ws r f) n)) at c.loop-k.invariant.2 in (
-      (λ f l. c.loop-k.invariant.1.1 f l ∙ any_same (named_through ws c.loop-k.claims.kernel f) (named_by ws r f) 256 (λ t h. ap (λ x. x && names_in ws t f) (tables t h))),
+    let tables : Shows c.loop-k.claims.page_tables (pointed ws r) = subst (λ n. Shows c.loop-k.claims.page_tables (λ f. any (points ws r f) n)) at c.loop-k.invariant.2 in (
+      (λ f l. c.loop-k.invariant.1.1 f l ∙ any_same (referenced_through ws c.loop-k.claims.page_tables f) (referenced_by ws r f) 256 (λ t h. ap (λ x. x && references_in ws t f) (tables t h))),
       λ f l. c.mark.ensures f l ∙ ap (λ x. x || eqb r f) (tables f l),
     )

@@ -1,8 +1,8 @@
 -- What is left to show of `check_unless_known`.
 use Rattle.std.proofs.Common.{◌≡◌, None, ◌||◌, eqb, sym, ap, ◌∙◌, subst, inl, inr}
 use Rattle.std.proofs.lemmas.Bool.{eqb-true, or_cases}
-use Rattle.words.proofs.First.{unless_ok}
-use Rattle.checker.specs.Marks.{names_in}
+use Rattle.ranges.proofs.Questions.{unless_ok}
+use Rattle.checker.specs.Marks.{references_in}
 use Rattle.checker.specs.Tables.{table_fault}
 use Rattle.checker.specs.Scaffold.{Shows, marked}
 use Rattle.checker.proofs.Forms.{fault_none}
@@ -13,7 +13,7 @@ pub returns-clause-gathered : goal.returns-clause-gathered
 returns-clause-gathered c = λ _.
     let ws = c.args.words.now in
     let t = c.args.table in
-    let was = c.args.claims.now.kernel in
+    let was = c.args.claims.now.page_tables in
     let now = c.mark.new.self in
     let none : table_fault ws t ≡ None = unless_ok (table_fault ws t) tt c.in_ok-check_table.field-0 (sym c.check_table.ensures.value ∙ c.in_ok-check_table.was) in
     let shows : Shows now (λ f. marked was f || eqb t f) = c.mark.ensures in (
@@ -22,6 +22,6 @@ returns-clause-gathered c = λ _.
         | inr s ↦ subst (λ q. table_fault ws q ≡ None) (eqb-true t f s) none
       ]),
       λ f l.
-          c.check_table.ensures.named c.in_ok-check_table.was f l ∙ ap (λ x. x || names_in ws t f) (c.requires.1 f l)
+          c.check_table.ensures.referenced c.in_ok-check_table.was f l ∙ ap (λ x. x || references_in ws t f) (c.requires.1 f l)
           ∙ sym (named_more ws f was now t (fault_none ws t none).0.below shows),
     )

@@ -15,6 +15,6 @@ returns c = record {
   reads = local;
   tables = tables_decide;
   writes = writes_apart;
-  named = leaves_named;
+  referenced = leaves_named;
   example = worked;
 }

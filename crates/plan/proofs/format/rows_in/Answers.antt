@@ -1,6 +1,6 @@
 -- What is left to show of `rows_in`.
 use Rattle.std.proofs.Common.{◌+◌, ◌*◌, cond, ltb, rules}
-use Rattle.words.proofs.Chains.{array_from_calls}
+use Rattle.ranges.proofs.Chains.{array_from_calls}
 use Rattle.plan.specs.Format.{rows}
 use Rattle.plan.proofs.format.rows_in.Goals as goal
 

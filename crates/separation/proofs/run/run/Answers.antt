@@ -3,20 +3,20 @@ use Rattle.std.proofs.Common.{◌≡◌, ap, ◌∙◌, arith}
 use Rattle.checker.specs.declared.Accepted.{Accepted}
 use Rattle.kernel.specs.Machine.{after_slot}
 use Rattle.kernel.specs.Reports.{slot_report}
-use Rattle.separation.specs.declared.supervisor.Supervisor.{Supervisor}
+use Rattle.separation.specs.declared.session.Session.{Session}
 use Rattle.separation.specs.Calls.{first, in_words}
 use Rattle.separation.proofs.Calling.{finished_promises, finished_value, last_more, last_none, slots_more, slots_none, system_then}
 use Rattle.separation.proofs.run.run.Goals as goal
 
 pub loop-turn-init : goal.loop-turn-init
 loop-turn-init c =
-    let e = c.start-supervisor.ensures.value in
-    record { accepted = ap (λ (v : Supervisor). v.accepted) e; system = ap (λ (v : Supervisor). in_words v c.args.words.now) e ∙ slots_none _ _; last = last_none _ _ }
+    let e = c.start-session.ensures.value in
+    record { accepted = ap (λ (v : Session). v.accepted) e; system = ap (λ (v : Session). in_words v c.args.words.now) e ∙ slots_none _ _; last = last_none _ _ }
 
 pub loop-turn-preserved : goal.loop-turn-preserved
 loop-turn-preserved c =
     let a = c.args.accepted in
-    let now = in_words c.loop-turn.supervisor c.loop-turn.words in
+    let now = in_words c.loop-turn.session c.loop-turn.words in
     let start = first a c.args.words.now in
     let e = c.run_slot-last.ensures in
     let inv = c.loop-turn.invariant in
@@ -32,7 +32,7 @@ returns c =
     let i = l.invariant in
     let all : c.loop-turn._turn ≡ c.args.count = omega arith in
     record {
-      value = finished_value c.args.accepted c.args.words.now l.words l.supervisor c.args.count l._turn l.last all i.accepted i.system i.last;
-      words = ap (λ z. z.words) (system_then c.args.accepted c.args.words.now l.words l.supervisor c.args.count l._turn l.last all i.accepted i.system i.last);
-      promises = finished_promises c.args.accepted c.args.words.now l.words l.supervisor c.args.count l._turn l.last all i.accepted i.system i.last (omega arith);
+      value = finished_value c.args.accepted c.args.words.now l.words l.session c.args.count l._turn l.last all i.accepted i.system i.last;
+      words = ap (λ z. z.words) (system_then c.args.accepted c.args.words.now l.words l.session c.args.count l._turn l.last all i.accepted i.system i.last);
+      promises = finished_promises c.args.accepted c.args.words.now l.words l.session c.args.count l._turn l.last all i.accepted i.system i.last (omega arith);
     }

@@ -3,7 +3,7 @@ use Rattle.tables.proofs.Lines.{access_costs, comes_in, frame_is_tag, frames_con
 use Rattle.tables.proofs.Pages.{remembers_pages}
 use Rattle.tables.proofs.Sums.{charges}
 use Rattle.tables.proofs.Told.{remembers, write_backs}
-use Rattle.tables.proofs.Truth.{honesty, look_ups}
+use Rattle.tables.proofs.Truth.{coherence, look_ups}
 use Rattle.tables.proofs.Turns.{counters_stay, counts, loops_left, loops_predicted}
 use Rattle.tables.proofs.Worked.{worked}
 use Rattle.tables.proofs.laws.laws.Goals as goal
@@ -23,6 +23,6 @@ returns c = record {
   counters = counters_stay;
   lookups = look_ups;
   pages = remembers_pages;
-  honesty = honesty;
+  coherence = coherence;
   example = worked;
 }

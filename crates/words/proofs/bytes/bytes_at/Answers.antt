@@ -1,7 +1,7 @@
 -- What is left to show of `bytes_at`.
 use Rattle.std.proofs.Common.{◌≡◌, ◌+◌, ◌-◌, ◌^◌, ◌∙◌, min, rules, arith}
 use Rattle.words.specs.Bytes.{byte}
-use Rattle.words.proofs.Chains.{array_from_calls}
+use Rattle.ranges.proofs.Chains.{array_from_calls}
 use Rattle.words.proofs.Numbers.{byte_below}
 use Rattle.words.proofs.bytes.bytes_at.Goals as goal
 

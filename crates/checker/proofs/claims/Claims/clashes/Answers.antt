@@ -1,6 +1,6 @@
 -- What is left to show of `clashes`.
 use Rattle.std.proofs.Common.{refl, rules}
-use Rattle.words.proofs.Chains.{any_over_range}
+use Rattle.ranges.proofs.Chains.{any_over_range}
 use Rattle.checker.proofs.claims.Claims.clashes.Goals as goal
 use Rattle.checker.specs.Scaffold.{clash_claims}
 

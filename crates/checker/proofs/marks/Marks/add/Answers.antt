@@ -1,7 +1,7 @@
 -- What is left to show of `add`.
 use Rattle.std.proofs.Common.{false, ◌||◌, arith, rules}
 use Rattle.std.proofs.lemmas.List.FromFn.{get_or-map-range_with_len}
-use Rattle.words.proofs.Chains.{array_from_calls}
+use Rattle.ranges.proofs.Chains.{array_from_calls}
 use Rattle.checker.proofs.marks.Marks.add.Goals as goal
 use Rattle.checker.specs.Scaffold.{marked}
 

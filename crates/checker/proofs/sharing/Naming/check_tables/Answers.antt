@@ -1,8 +1,8 @@
 -- What is left to show of `check_tables`.
 use Rattle.std.proofs.Common.{sym, ap, ◌∙◌}
 use Rattle.std.proofs.lemmas.Result.{err_from_is_err_and}
-use Rattle.words.proofs.First.{checked_more, checked_stops, first_none}
-use Rattle.checker.specs.Sharing.{kernel_at, named_at, share_refusal}
+use Rattle.ranges.proofs.Questions.{checked_more, checked_stops, first_none}
+use Rattle.checker.specs.Sharing.{page_tables_at, referenced_at, share_refusal}
 use Rattle.checker.specs.Tables.{table_refusal}
 use Rattle.checker.specs.Scaffold.{Shows, cleared}
 use Rattle.checker.proofs.Shares.{first_after, joined_more, joined_none, shared_here}
@@ -12,7 +12,7 @@ pub loop-k-init : goal.loop-k-init
 loop-k-init c =
     let ws = c.args.words.now in
     let p = c.args.plan.now in
-    (first_none (table_refusal ws p), sym (first_none (share_refusal ws p)), joined_none (named_at ws p), joined_none (kernel_at ws p))
+    (first_none (table_refusal ws p), sym (first_none (share_refusal ws p)), joined_none (referenced_at ws p), joined_none (page_tables_at ws p))
 
 pub returns-in_err-own-clause-value : goal.returns-in_err-own-clause-value
 returns-in_err-own-clause-value c =
@@ -23,19 +23,19 @@ returns-in_err-own-clause-value c =
     (sym c.check_tables_of.ensures.value ∙ ap cleared c.in_err-own.was)))
 
 pub loop-k-preserved : goal.loop-k-preserved
-unfolding named_at kernel_at
+unfolding referenced_at page_tables_at
 loop-k-preserved c =
     let ws = c.args.words.now in
     let p = c.args.plan.now in
     let k = c.loop-k.k in
     let earlier = c.loop-k.earlier in
     let own = c.in_ok-own.own in
-    let a : Shows own.named (λ f. named_at ws p f k) = c.in_ok-own.ensures.claims.0 in
-    let b : Shows own.kernel (λ f. kernel_at ws p f k) = c.in_ok-own.ensures.claims.1 in
-    let named = c.loop-k.invariant.2 in
-    let kernel = c.loop-k.invariant.3 in (
+    let a : Shows own.referenced (λ f. referenced_at ws p f k) = c.in_ok-own.ensures.claims.0 in
+    let b : Shows own.page_tables (λ f. page_tables_at ws p f k) = c.in_ok-own.ensures.claims.1 in
+    let referenced = c.loop-k.invariant.2 in
+    let page_tables = c.loop-k.invariant.3 in (
       checked_more (table_refusal ws p) k tt tt c.loop-k.invariant.0 (sym c.check_tables_of.ensures.value ∙ ap cleared c.in_ok-own.was),
-      c.or-shared.ensures ∙ first_after (share_refusal ws p) k c.loop-k.shared c.shared_at.result c.loop-k.invariant.1 (c.shared_at.ensures ∙ shared_here ws p k own earlier a b named kernel),
-      joined_more (named_at ws p) earlier.named own.named _ k named a c.add.ensures.named,
-      joined_more (kernel_at ws p) earlier.kernel own.kernel _ k kernel b c.add.ensures.kernel,
+      c.or-shared.ensures ∙ first_after (share_refusal ws p) k c.loop-k.shared c.shared_at.result c.loop-k.invariant.1 (c.shared_at.ensures ∙ shared_here ws p k own earlier a b referenced page_tables),
+      joined_more (referenced_at ws p) earlier.referenced own.referenced _ k referenced a c.add.ensures.referenced,
+      joined_more (page_tables_at ws p) earlier.page_tables own.page_tables _ k page_tables b c.add.ensures.page_tables,
     )

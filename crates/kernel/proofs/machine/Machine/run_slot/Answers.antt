@@ -31,10 +31,10 @@ returns c =
     let is = c.slot_of-slot.ensures in
     let x = moment c.run_until-instructions.new.self.core c.run_until-instructions.new.words c.run_until-instructions.result in
     let goes = can a.plan m slot is (omega arith) (omega arith) (omega arith) in
-    let ends : x ≡ (ended a.plan (system m ws)).now =
+    let frames : x ≡ (ended a.plan (system m ws)).now =
     c.run_until-instructions.ensures ∙ ap (λ (k : Core). run_until (m.clock + c.from.result) k ws) c.load.ensures ∙ same_end a.plan m ws slot c.core_for.result (m.clock + c.from.result) is c.core_for.ensures (omega arith) (omega arith) in
     record {
-      value = told a m ws goes slot is x ends;
-      machine = c.switch.ensures ∙ machine_after a m ws goes slot is x ends;
-      words = c.deliver.ensures ∙ words_after a m ws goes slot is x ends;
+      value = told a m ws goes slot is x frames;
+      machine = c.switch.ensures ∙ machine_after a m ws goes slot is x frames;
+      words = c.deliver.ensures ∙ words_after a m ws goes slot is x frames;
     }

@@ -1,7 +1,7 @@
 -- What is left to show of `Plan::channels_out`.
 use Rattle.std.proofs.Common.{rules}
 use borrow.Author.Tests.{tests}
-use Rattle.words.proofs.Chains.{count_over_range}
+use Rattle.ranges.proofs.Chains.{count_over_range}
 use Rattle.plan.specs.Places.{leaves}
 use Rattle.plan.proofs.model.Plan.channels_out.Goals as goal
 

@@ -1,6 +1,6 @@
 -- What is left to show of `Plan::check_channels`.
 use Rattle.std.proofs.Common.{rules, refl}
-use Rattle.words.proofs.Chains.{first_over_range}
+use Rattle.ranges.proofs.Chains.{first_over_range}
 use Rattle.plan.proofs.model.Plan.check_channels.Goals as goal
 
 pub returns : goal.returns

@@ -1,6 +1,6 @@
 -- What is left to show of `Plan::flows`.
 use Rattle.std.proofs.Common.{refl, rules}
-use Rattle.words.proofs.Chains.{any_over_range}
+use Rattle.ranges.proofs.Chains.{any_over_range}
 use Rattle.plan.specs.Flows.{leads}
 use Rattle.plan.proofs.Reaching.{flows_decided}
 use Rattle.plan.proofs.model.Plan.flows.Goals as goal

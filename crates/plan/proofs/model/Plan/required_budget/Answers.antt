@@ -1,7 +1,7 @@
 -- What is left to show of `Plan::required_budget`.
 use Rattle.std.proofs.Common.{ℕ, ◌+◌, ap, ◌∙◌, max, rules}
 use Rattle.costs.specs.Costs.{worst_switch}
-use Rattle.words.proofs.Chains.{most_over_range}
+use Rattle.ranges.proofs.Chains.{most_over_range}
 use Rattle.plan.specs.Switch.{copies, copy_cycles}
 use Rattle.plan.proofs.Copying.{longest}
 use Rattle.plan.proofs.model.Plan.required_budget.Goals as goal

@@ -8,11 +8,11 @@ use Rattle.console.specs.declared.problem.Problem.TheVariants.{CommandLine, Miss
 
 -- the word at a place has these bytes
 abbrev pub IsWordAt : List (String Global) → ℕ → List ℕ → Type 0
-IsWordAt words at bytes = (at < length words) × HoldsAt (λ word. string_bytes word ≡ bytes) words at
+IsWordAt line at bytes = (at < length line) × HoldsAt (λ word. string_bytes word ≡ bytes) line at
 
 -- whether the first word asks the program to tell of itself
 abbrev pub AsksOfItself : List (String Global) → Bool → Type 0
-AsksOfItself words r = Decides r (IsWordAt words 0 (codes "--help") ⊎ IsWordAt words 0 (codes "--version"))
+AsksOfItself line r = Decides r (IsWordAt line 0 (codes "--help") ⊎ IsWordAt line 0 (codes "--version"))
 
 -- it tells that the words cannot be read, or that no memory is left for them
 abbrev pub IsUnheard : Problem → Type 0
@@ -26,15 +26,15 @@ is_option word = starts_with eqb word (codes "-")
 
 -- the word at a place is an option
 abbrev pub IsOptionAt : List (String Global) → ℕ → Type 0
-IsOptionAt words at = (at < length words) × HoldsAt (λ word. is_option (string_bytes word) ≡ true) words at
+IsOptionAt line at = (at < length line) × HoldsAt (λ word. is_option (string_bytes word) ≡ true) line at
 
 -- the word at a place if it is there and no option; else the problem tells which of the two it is, or that no memory is left to tell of the option
 abbrev pub NamesFile : List (String Global) → ℕ → List ℕ → Result (Bor (List ℕ)) Problem → Type 0
-NamesFile words at name (Ok text) = IsWordAt words at text.now × (is_option text.now ≡ false)
-NamesFile words at name (Err (MissingArgument missing)) = (length words ≤ at) × (missing.now ≡ name)
-NamesFile words at name (Err (UnexpectedOption text)) = IsWordAt words at (string_bytes text) × (is_option (string_bytes text) ≡ true)
-NamesFile words at name (Err (NoMemory e)) = IsOptionAt words at
-NamesFile words at name (Err _) = ⊥
+NamesFile line at name (Ok text) = IsWordAt line at text.now × (is_option text.now ≡ false)
+NamesFile line at name (Err (MissingArgument missing)) = (length line ≤ at) × (missing.now ≡ name)
+NamesFile line at name (Err (UnexpectedOption text)) = IsWordAt line at (string_bytes text) × (is_option (string_bytes text) ≡ true)
+NamesFile line at name (Err (NoMemory e)) = IsOptionAt line at
+NamesFile line at name (Err _) = ⊥
 
 -- it tells that this word is no number from 0 to the most, or that no memory is left to tell
 abbrev pub IsNoNumber : List ℕ → ℕ → List ℕ → Problem → Type 0
@@ -44,9 +44,9 @@ IsNoNumber name most word _ = ⊥
 
 -- it tells of the word at this place, or that no memory is left to tell
 abbrev pub IsSurplus : List (String Global) → ℕ → Problem → Type 0
-IsSurplus words at (SurplusArgument text) = HoldsAt (λ word. string_bytes word ≡ string_bytes text) words at
-IsSurplus words at (NoMemory e) = Unit {0}
-IsSurplus words at _ = ⊥
+IsSurplus line at (SurplusArgument text) = HoldsAt (λ word. string_bytes word ≡ string_bytes text) line at
+IsSurplus line at (NoMemory e) = Unit {0}
+IsSurplus line at _ = ⊥
 
 -- it tells that the file of this name cannot be read, or that no memory is left to tell
 abbrev pub IsUnreadable : List ℕ → Problem → Type 0

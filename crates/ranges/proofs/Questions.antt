@@ -2,7 +2,7 @@
 use Rattle.std.proofs.Common.{◌≡◌, ℕ, zero, suc, ◌+◌, ◌<◌, ◌≤◌, max, Bool, true, false, cond, ◌||◌, ◌⊎◌, Some, None, Ok, Err, Option, sym, refl, ◌∙◌, inl, inr, add-one, arith}
 use Rattle.std.proofs.lemmas.Bool.{cases_lt, cases_Bool, or_left, or_right, or_cases, or_from, true≢false}
 use Rattle.std.specs.Option.{option_or}
-use Rattle.words.specs.First.{first, any, count, most, unless}
+use Rattle.ranges.specs.Questions.{first, any, count, most, unless}
 
 pub or_none : {X : Type 0} (o q : Option X) → option_or o q ≡ None → (o ≡ None) × (q ≡ None)
 or_none None q e = (refl, e)

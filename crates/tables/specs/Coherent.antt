@@ -2,8 +2,8 @@
 use Rattle.std.specs.Prelude.{◌≡◌, ℕ, ◌/◌, List, Some, None, Ok, Err, Option, Result}
 use Rattle.std.specs.List.{AllByRecursion}
 use Rattle.paging.specs.declared.access.Access.{Access}
-use Rattle.paging.specs.Accesses.{PageFault, page_fault, place_in}
-use Rattle.paging.specs.declared.place.Place.{Place}
+use Rattle.paging.specs.Accesses.{PageFault, page_fault, physical_in}
+use Rattle.paging.specs.declared.physical.PhysicalAddress.{PhysicalAddress}
 use Rattle.paging.specs.Walks.{translated, walked}
 use Rattle.tables.specs.declared.tlb.Lookup.{Lookup}
 use Rattle.tables.specs.declared.tlb.Tlb.{Tlb}
@@ -15,18 +15,18 @@ TrueEntry words root None = Unit {0}
 TrueEntry words root (Some entry) = walked words root entry.page ≡ Some entry.leaf
 
 -- and so has every entry
-abbrev pub Honest : Tlb → List ℕ → ℕ → Type 0
-Honest tlb words root = AllByRecursion (TrueEntry words root) tlb.entries
+abbrev pub Coherent : Tlb → List ℕ → ℕ → Type 0
+Coherent tlb words root = AllByRecursion (TrueEntry words root) tlb.entries
 
 -- the place that a look-up gives for an address in its page, or the fault
-abbrev pub reached_in : Option ℕ → ℕ → Access → Result Place PageFault
+abbrev pub reached_in : Option ℕ → ℕ → Access → Result PhysicalAddress PageFault
 reached_in None address access = Err (page_fault access)
-reached_in (Some frame) address access = Ok (place_in frame address)
+reached_in (Some frame) address access = Ok (physical_in frame address)
 
-abbrev pub reached : Lookup → ℕ → Access → Result Place PageFault
+abbrev pub reached : Lookup → ℕ → Access → Result PhysicalAddress PageFault
 reached lookup address access = reached_in lookup.frame address access
 
--- a look-up gives what translation by the page tables gives, and leaves an honest TLB
+-- a look-up gives what translation by the page tables gives, and leaves an coherent TLB
 pub record Truthful (after : Tlb) (words : List ℕ) (root page : ℕ) (access : Access) (lookup : Lookup) : Type 0 where
-  pub still : Honest after words root
+  pub still : Coherent after words root
   pub translates : (address : ℕ) → address / 4096 ≡ page → reached lookup address access ≡ translated words root address access

@@ -10,18 +10,18 @@ use kernel::machine::Machine;
 use kernel::report::Report;
 
 #[derive(Clone, Copy)]
-pub struct Supervisor {
+pub struct Session {
     pub accepted: Accepted,
     pub machine: Machine,
 }
 
-impl Supervisor {
+impl Session {
     // Ready to run a plan that was accepted. What the plan's words are to the checker stands in the promises: it is judged once, before.
-    pub fn start(accepted: Accepted) -> Supervisor
+    pub fn start(accepted: Accepted) -> Session
         ensures value { result ≡ ready accepted }
         ensures promises { Starts accepted result }
     {
-        Supervisor {
+        Session {
             accepted,
             machine: Machine::load(&accepted.plan),
         }

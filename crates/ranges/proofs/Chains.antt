@@ -24,8 +24,8 @@ use Rattle.std.proofs.lemmas.List.FromFn.{fill_by_all, map-range_with_len_more}
 use Rattle.std.proofs.lemmas.List.Folds.{list_any-append, max_of_map}
 use Rattle.std.proofs.lemmas.List.Elements.{filter-append}
 use Rattle.std.proofs.lemmas.List.Sums.{fold-append}
-use Rattle.words.specs.First.{first, any, count, most, unless}
-use Rattle.words.proofs.First.{first_none, checked_more, checked_stops, checked_all, any_none, any_step, count_none, count_more, most_none, most_more}
+use Rattle.ranges.specs.Questions.{first, any, count, most, unless}
+use Rattle.ranges.proofs.Questions.{first_none, checked_more, checked_stops, checked_all, any_none, any_step, count_none, count_more, most_none, most_more}
 
 -- what holds at 0, and at n + 1 where it holds at n
 by_count : (P : ℕ → Type 0) → P 0 → ((n : ℕ) → P n → P (n + 1)) → (n : ℕ) → P n

@@ -3,7 +3,7 @@ use words::frames::FRAME_WORDS;
 
 // A byte of memory: its frame, and how many bytes of the frame stand before it, below 4,096.
 #[derive(Clone, Copy)]
-pub struct Place {
+pub struct PhysicalAddress {
     pub frame: u32,
     pub offset: u32,
 }

@@ -2,7 +2,7 @@
 use Rattle.std.proofs.Common.{◌≡◌, ap, subst, sym}
 use Rattle.separation.specs.Calls.{Starts, ready}
 use Rattle.separation.proofs.Calling.{starts}
-use Rattle.separation.proofs.supervisor.Supervisor.start.Goals as goal
+use Rattle.separation.proofs.session.Session.start.Goals as goal
 
 pub returns : goal.returns
 returns c =

@@ -2,7 +2,7 @@
 use Rattle.std.proofs.Common.{refl}
 use Rattle.kernel.specs.Machine.{after_slot, system}
 use Rattle.separation.proofs.Calling.{slot_keeps, slot_unseen, system_is}
-use Rattle.separation.proofs.supervisor.Supervisor.run_slot.Goals as goal
+use Rattle.separation.proofs.session.Session.run_slot.Goals as goal
 
 pub returns : goal.returns
 returns c =

@@ -1,0 +1,4 @@
+-- The lemmas of this crate.
+pub mod Questions
+pub mod Chains
+mod Answered
