@@ -1,7 +1,7 @@
 -- The laws of the questions.
-use Rattle.std.proofs.Common.{◌≡◌, ℕ, zero, suc, ◌+◌, ◌<◌, ◌≤◌, max, Bool, true, false, cond, ◌⊎◌, refl, ◌∙◌, inl, inr, arith}
+use Rattle.std.proofs.Common.{◌≡◌, ℕ, zero, suc, ◌<◌, false, ◌⊎◌, refl, ◌∙◌, inl, inr, arith}
 use Rattle.std.proofs.lemmas.Bool.{cases_lt}
-use Rattle.ranges.specs.Questions.{any, count, first, most}
+use Rattle.ranges.specs.Questions.{count, most}
 use Rattle.ranges.specs.Laws.{Anys, Counts, Firsts, Mosts}
 use Rattle.ranges.proofs.Questions.{any_here, any_where, below_none, count_change, count_same, first_is, most_bound, none_below}
 
