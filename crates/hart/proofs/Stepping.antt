@@ -46,25 +46,25 @@ apart s cause pc ready stopped = let z : ◌≡◌ {A = ℕ} 0 1 = cc in omega a
 -- what becomes of registers and counter
 record Moves (x y : Context) : Type 0 where
   one_register : (y.registers ≡ x.registers) ⊎ SetOne x.registers y.registers
-  counter : x.pc % 4 ≡ 0 → y.pc % 4 ≡ 0
+  aligned : x.pc % 4 ≡ 0 → y.pc % 4 ≡ 0
 
 module _ (x : Context) where
   stop_moves : (cause : Cause) → Moves x (stopped x cause)
-  stop_moves cause = record { one_register = inl refl; counter = λ e. e }
+  stop_moves cause = record { one_register = inl refl; aligned = λ e. e }
 
   next_counter : x.pc % 4 ≡ 0 → next_pc x % 4 ≡ 0
   next_counter e = omega arith
 
   set_moves : (rd : Register) (value : ℕ) → Moves x (register_set x rd value)
-  set_moves rd value = record { one_register = inr (record { register = rd; value = value; set = refl }); counter = next_counter }
+  set_moves rd value = record { one_register = inr (record { register = rd; value = value; set = refl }); aligned = next_counter }
 
   next_moves : Moves x (goes_on x (next_pc x))
-  next_moves = record { one_register = inl refl; counter = next_counter }
+  next_moves = record { one_register = inl refl; aligned = next_counter }
 
   branch_moves : (taken : Bool) (target : ℕ) → Moves x (branch_context x taken target)
   branch_moves false target = next_moves
   branch_moves true target = elim (cases_Bool (eqb (target % 4) 0)) [
-    | inl e ↦ rw e (record { one_register = inl refl; counter = λ _. eqb-true (target % 4) 0 e })
+    | inl e ↦ rw e (record { one_register = inl refl; aligned = λ _. eqb-true (target % 4) 0 e })
     | inr e ↦ rw e (stop_moves FetchMisaligned)
   ]
 
@@ -156,7 +156,7 @@ module _ (core : Core) (ws : List ℕ) where
   unfolding executed
   executed_kept (sets rd value) = goes_here _ refl (set_moves core.context rd value)
   executed_kept (jumps rd target) = elim (cases_Bool (eqb (target % 4) 0)) [
-    | inl e ↦ rw e (goes_here _ refl (record { one_register = inr (record { register = rd; value = next_pc core.context; set = refl }); counter = λ _. eqb-true (target % 4) 0 e }))
+    | inl e ↦ rw e (goes_here _ refl (record { one_register = inr (record { register = rd; value = next_pc core.context; set = refl }); aligned = λ _. eqb-true (target % 4) 0 e }))
     | inr e ↦ rw e (halts_here FetchMisaligned)
   ]
   executed_kept (branches taken target) = elim (cases_Bool (misses_target taken target)) [
@@ -203,7 +203,7 @@ module _ (core : Core) (ws : List ℕ) where
           | inl same ↦ inl same
           | inr h ↦ inr (record { cause = h.cause; context = h.context; words = h.words; cache = h.cache; predictor = h.predictor; no_cache = h.no_cache; no_branch = h.no_branch })
         ];
-        moves = record { one_register = rest.moves.one_register; counter = rest.moves.counter };
+        moves = record { one_register = rest.moves.one_register; aligned = rest.moves.aligned };
         whole = λ w. rest.whole (lookup_whole core ws core.context.pc Fetch w);
         coherent = λ h. rest.coherent (lookup_coherent core ws core.context.pc Fetch h);
         few = rest.few;
@@ -211,7 +211,7 @@ module _ (core : Core) (ws : List ℕ) where
 
   program_kept : Kept core ws (program_step core.context.state core ws)
   program_kept = by_state (Kept core ws) core ws core.context.state (λ _. fetch_kept)
-      (λ _ _ _. goes_here core ws core.context refl (record { one_register = inl refl; counter = λ e. e }))
+      (λ _ _ _. goes_here core ws core.context refl (record { one_register = inl refl; aligned = λ e. e }))
 
   -- a branch has no data
   no_data : (condition : Condition) (left right : Register) (offset : ℤ) → decoded (fetched core ws) ≡ Some (Branch condition left right offset) →
@@ -237,7 +237,7 @@ steps core ws = let kept = program_kept core ws in record {
   branch = λ condition left right offset d.
       let none = no_data core ws condition left right offset d in bounds.branch (program_step core.context.state core ws).used none.0 none.1;
   one_register = kept.moves.one_register;
-  counter = kept.moves.counter;
+  aligned = kept.moves.aligned;
   ready = λ e. elim kept.way [
     | inl same ↦ inl (same ∙ e)
     | inr h ↦ inr (record {

@@ -5,7 +5,7 @@ use Rattle.costs.specs.Costs.{instruction}
 use Rattle.costs.specs.Cycles.{cycles, plain, walk_cycles}
 use Rattle.words.specs.Frames.{word}
 use Rattle.isa.specs.declared.instruction.Instruction.{Instruction}
-use Rattle.isa.specs.declared.instruction.Instruction.TheVariants.{Lui, Auipc, Jal, Jalr, Branch, Load, Store, RegisterImmediate, RegisterRegister, ReadCounter}
+use Rattle.isa.specs.declared.instruction.Instruction.TheVariants.{Lui, Auipc, Jal, Jalr, Branch, Load, Store, RegisterImmediate, RegisterRegister, ReadCsr}
 use Rattle.isa.specs.Decoding.{decoded}
 use Rattle.paging.specs.declared.access.Access.{Access}
 use Rattle.paging.specs.declared.access.Access.TheVariants.{Fetch}
@@ -43,7 +43,7 @@ module _ (core : Core) (ws : List ℕ) where
   leaves (Some (Jalr rd base offset)) = none_used (Some (Jalr rd base offset)) _
   leaves (Some (RegisterImmediate operation rd source value)) = none_used (Some (RegisterImmediate operation rd source value)) _
   leaves (Some (RegisterRegister operation rd left right)) = none_used (Some (RegisterRegister operation rd left right)) _
-  leaves (Some (ReadCounter rd counter)) = none_used (Some (ReadCounter rd counter)) _
+  leaves (Some (ReadCsr rd csr)) = none_used (Some (ReadCsr rd csr)) _
   leaves (Some (Branch condition left right offset)) = record { cache = λ _. refl; predictor = λ u. absurd (true≢false u); plain = λ _ u. absurd (true≢false u) }
   leaves (Some (Load width rd base offset)) = record { cache = λ u. absurd (true≢false u); predictor = λ _. access_predictor _ _ _ _; plain = λ u _. absurd (true≢false u) }
   leaves (Some (Store width base source offset)) = record { cache = λ u. absurd (true≢false u); predictor = λ _. access_predictor _ _ _ _; plain = λ u _. absurd (true≢false u) }

@@ -1,8 +1,8 @@
 -- What one step comes to.
 use Rattle.std.specs.Prelude.{◌≡◌, ℕ, ◌+◌, ◌*◌, ◌^◌, ◌<◌, true, ◌⊎◌, List}
 use Rattle.words.specs.Frames.{word, written}
-use Rattle.isa.specs.declared.instruction.Counter.TheVariants.{Cycle, Time, CycleHigh}
-use Rattle.isa.specs.Counters.{counter_value}
+use Rattle.isa.specs.declared.instruction.Csr.TheVariants.{Cycle, Time, CycleHigh}
+use Rattle.isa.specs.Csrs.{csr_value}
 use Rattle.tables.specs.Coherent.{Coherent}
 use Rattle.paging.specs.declared.leaf.Leaf.{Leaf}
 use Rattle.paging.specs.Mapping.{Maps}
@@ -85,7 +85,7 @@ StaysOwn = (core : Core) (ws : List ℕ) → TablesApart ws core.root → Cohere
 
 -- rdcycle and rdcycleh read the two halves of the clock, and rdtime what rdcycle does; while the clock has 64 bits each half has 32
 pub record ClockHalves : Type 0 where
-  pub joined : (clock : ℕ) → counter_value Cycle clock + 2 ^ 32 * counter_value CycleHigh clock ≡ clock
-  pub time : (clock : ℕ) → counter_value Time clock ≡ counter_value Cycle clock
-  pub low : (clock : ℕ) → counter_value Cycle clock < 2 ^ 32
-  pub high : (clock : ℕ) → clock < 2 ^ 64 → counter_value CycleHigh clock < 2 ^ 32
+  pub joined : (clock : ℕ) → csr_value Cycle clock + 2 ^ 32 * csr_value CycleHigh clock ≡ clock
+  pub time : (clock : ℕ) → csr_value Time clock ≡ csr_value Cycle clock
+  pub low : (clock : ℕ) → csr_value Cycle clock < 2 ^ 32
+  pub high : (clock : ℕ) → clock < 2 ^ 64 → csr_value CycleHigh clock < 2 ^ 32

@@ -50,7 +50,7 @@ pub record StepKeeps (core : Core) (ws : List ℕ) : Type 0 where
       cycles (stepped core ws).used ≤ worst_branch
   -- at most one register is set, and a counter that is a multiple of 4 stays one
   pub one_register : ((stepped core ws).core.context.registers ≡ core.context.registers) ⊎ SetOne core.context.registers (stepped core ws).core.context.registers
-  pub counter : core.context.pc % 4 ≡ 0 → (stepped core ws).core.context.pc % 4 ≡ 0
+  pub aligned : core.context.pc % 4 ≡ 0 → (stepped core ws).core.context.pc % 4 ≡ 0
   -- a ready program goes on or stops, and one that is stopped stays as it is
   pub ready : core.context.state ≡ Ready → ((stepped core ws).core.context.state ≡ Ready) ⊎ Stops core ws (stepped core ws)
   pub rests : (cause : Cause) (pc : ℕ) → core.context.state ≡ Stopped cause pc →

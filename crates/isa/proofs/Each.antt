@@ -7,7 +7,7 @@ use Rattle.words.specs.Bits.{field, signed}
 use Rattle.isa.specs.declared.register.Register.{Register}
 use Rattle.isa.specs.declared.instruction.Operation.{Operation}
 use Rattle.isa.specs.declared.instruction.Instruction.{Instruction}
-use Rattle.isa.specs.declared.instruction.Instruction.TheVariants.{Lui, Auipc, Jal, Jalr, Branch, Load, Store, RegisterImmediate, RegisterRegister, ReadCounter}
+use Rattle.isa.specs.declared.instruction.Instruction.TheVariants.{Lui, Auipc, Jal, Jalr, Branch, Load, Store, RegisterImmediate, RegisterRegister, ReadCsr}
 use Rattle.isa.specs.Registers.{register}
 use Rattle.isa.specs.Formats.{opcode, rd, funct3, rs1, rs2, funct7, i_bits, u_immediate, u_format, i_format}
 use Rattle.isa.specs.Integers.{remainder}
@@ -16,7 +16,7 @@ use Rattle.isa.specs.Operations.{operation_number, operations, funct3_of, funct7
 use Rattle.isa.specs.Conditions.{condition_number, conditions}
 use Rattle.isa.specs.Loads.{load_number, loads}
 use Rattle.isa.specs.Stores.{store_number, stores}
-use Rattle.isa.specs.Counters.{counter_number, counters}
+use Rattle.isa.specs.Csrs.{csr_number, csrs}
 use Rattle.isa.specs.Decoding.{Major, opcode_of, majors, constant, shift, in_major, decoded}
 use Rattle.isa.specs.Encoding.{encoding, Within, Encodable}
 use Rattle.isa.proofs.Complement.{bits_below, signed_of_bits, zeros}
@@ -109,8 +109,8 @@ back w (RegisterRegister k d l r) h q =
     let r1 = same_register (rs1 w) l m.in_rs1 in
     let r2 = same_register (rs2 w) r m.in_rs2 in
     (m.word, major w Major.OP _ m.in_opcode refl (meets operation_number operations _ (funct7 w * 8 + funct3 w) k (omega (arith, m.in_funct7, m.in_funct3)) t.0 ∙ cc))
-back w (ReadCounter d k) h q =
-    let t : Row counter_number counters (2 ^ 12) k = search rules in
-    let m = i_back w (counter_number k) 2 0x73 (register 0) d (omega arith) (omega arith) t.1 q in
+back w (ReadCsr d k) h q =
+    let t : Row csr_number csrs (2 ^ 12) k = search rules in
+    let m = i_back w (csr_number k) 2 0x73 (register 0) d (omega arith) (omega arith) t.1 q in
     let tests = and_from (eqb (funct3 w) 2) (eqb (field w 15 5) 0) (eq-eqb (funct3 w) 2 m.0.in_funct3) (eq-eqb (field w 15 5) 0 m.0.in_rs1) in
-    (m.0.word, major w Major.SYSTEM _ m.0.in_opcode refl (cond-true _ _ _ tests ∙ meets counter_number counters _ (i_bits w) k m.1 t.0 ∙ cc))
+    (m.0.word, major w Major.SYSTEM _ m.0.in_opcode refl (cond-true _ _ _ tests ∙ meets csr_number csrs _ (i_bits w) k m.1 t.0 ∙ cc))

@@ -10,9 +10,9 @@ use Rattle.isa.specs.declared.instruction.Operation.{Operation}
 use Rattle.isa.specs.declared.instruction.Condition.{Condition}
 use Rattle.isa.specs.declared.instruction.LoadWidth.{LoadWidth}
 use Rattle.isa.specs.declared.instruction.StoreWidth.{StoreWidth}
-use Rattle.isa.specs.declared.instruction.Counter.{Counter}
+use Rattle.isa.specs.declared.instruction.Csr.{Csr}
 use Rattle.isa.specs.declared.instruction.Instruction.{Instruction}
-use Rattle.isa.specs.declared.instruction.Instruction.TheVariants.{Lui, Auipc, Jal, Jalr, Branch, Load, Store, RegisterImmediate, RegisterRegister, ReadCounter}
+use Rattle.isa.specs.declared.instruction.Instruction.TheVariants.{Lui, Auipc, Jal, Jalr, Branch, Load, Store, RegisterImmediate, RegisterRegister, ReadCsr}
 use Rattle.isa.specs.Formats.{opcode, rd, funct3, rs1, rs2, funct7, i_bits, s_bits, b_bits, u_bits, j_bits, i_immediate, s_immediate, b_immediate, u_immediate, j_immediate}
 use Rattle.isa.specs.Integers.{remainder}
 use Rattle.isa.specs.Tables.{numbered, Listed}
@@ -20,7 +20,7 @@ use Rattle.isa.specs.Operations.{operation_number, operations, funct3_of, funct7
 use Rattle.isa.specs.Conditions.{condition_number, conditions}
 use Rattle.isa.specs.Loads.{load_number, loads}
 use Rattle.isa.specs.Stores.{store_number, stores}
-use Rattle.isa.specs.Counters.{counter_number, counters}
+use Rattle.isa.specs.Csrs.{csr_number, csrs}
 use Rattle.isa.specs.Decoding.{Major, opcode_of, majors, constant, shift, in_major, decoded}
 use Rattle.isa.specs.Encoding.{encoding, Within, Encodable}
 use Rattle.isa.proofs.Complement.{bits_of_signed, low_bits}
@@ -106,7 +106,7 @@ module _ (w : ℕ) (h : w < 2 ^ 32) where
   register_of : (k : Operation) → opcode w ≡ opcode_of Major.OP → funct7 w * 8 + funct3 w ≡ operation_number k → Of w (RegisterRegister k (rd w) (rs1 w) (rs2 w))
   register_of k o e = let g = both k e in let b = r_word w h in (cc, tt)
 
-  counter_of : (k : Counter) → opcode w ≡ opcode_of Major.SYSTEM → funct3 w ≡ 2 → (rs1 w).index ≡ 0 → i_bits w ≡ counter_number k → Of w (ReadCounter (rd w) k)
+  counter_of : (k : Csr) → opcode w ≡ opcode_of Major.SYSTEM → funct3 w ≡ 2 → (rs1 w).index ≡ 0 → i_bits w ≡ csr_number k → Of w (ReadCsr (rd w) k)
   counter_of k o f r e = let b = i_word w h in (cc, tt)
 
 -- the row that a word was found in
@@ -140,7 +140,7 @@ module _ (w : ℕ) (i : Instruction) (h : w < 2 ^ 32) where
       by_row operation_number operations (funct7 w * 8 + funct3 w) (λ k. RegisterRegister k (rd w) (rs1 w) (rs2 w)) (λ k f _. register_of w h k o f)
   by_major Major.SYSTEM o = by_test (eqb (funct3 w) 2 && eqb (field w 15 5) 0) _ (λ t.
       let both = and_parts (eqb (funct3 w) 2) (eqb (field w 15 5) 0) t in
-      by_row counter_number counters (i_bits w) (ReadCounter (rd w))
+      by_row csr_number csrs (i_bits w) (ReadCsr (rd w))
       (λ k f _. counter_of w h k o (eqb-true (funct3 w) 2 both.0) (eqb-true (field w 15 5) 0 both.1) f))
 
   pub only : decoded w ≡ Some i → Of w i

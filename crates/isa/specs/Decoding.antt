@@ -3,14 +3,14 @@ use Rattle.std.specs.Prelude.{ℕ, ◌+◌, ◌*◌, cond, ◌&&◌, pos, List, 
 use Rattle.std.specs.Option.{option_and_then, option_or}
 use Rattle.words.specs.Bits.{field}
 use Rattle.isa.specs.declared.instruction.Instruction.{Instruction}
-use Rattle.isa.specs.declared.instruction.Instruction.TheVariants.{Lui, Auipc, Jal, Jalr, Branch, Load, Store, RegisterImmediate, RegisterRegister, ReadCounter}
+use Rattle.isa.specs.declared.instruction.Instruction.TheVariants.{Lui, Auipc, Jal, Jalr, Branch, Load, Store, RegisterImmediate, RegisterRegister, ReadCsr}
 use Rattle.isa.specs.Formats.{opcode, rd, funct3, rs1, rs2, funct7, i_immediate, s_immediate, b_immediate, u_immediate, j_immediate}
 use Rattle.isa.specs.Tables.{numbered}
 use Rattle.isa.specs.Operations.{operation_number, operations, funct3_of, constants, shifts}
 use Rattle.isa.specs.Conditions.{condition_number, conditions}
 use Rattle.isa.specs.Loads.{load_number, loads}
 use Rattle.isa.specs.Stores.{store_number, stores}
-use Rattle.isa.specs.Counters.{counter_number, counters, read_and_set, no_source}
+use Rattle.isa.specs.Csrs.{csr_number, csrs, read_and_set, no_source}
 
 -- funct3 of JALR
 abbrev pub jalr_number : ℕ
@@ -41,10 +41,10 @@ register_register w =
     option_and_then (λ o. Some (RegisterRegister o (rd w) (rs1 w) (rs2 w))) (numbered operation_number operations (funct7 w * 8 + funct3 w))
 
 -- CSRRS of a counter from register 0
-abbrev pub read_counter : ℕ → Option Instruction
-read_counter w =
+abbrev pub read_csr : ℕ → Option Instruction
+read_csr w =
     cond (funct3 w == read_and_set && field w 15 5 == no_source)
-    (option_and_then (λ k. Some (ReadCounter (rd w) k)) (numbered counter_number counters (field w 20 12)))
+    (option_and_then (λ k. Some (ReadCsr (rd w) k)) (numbered csr_number csrs (field w 20 12)))
     None
 
 abbrev pub register_immediate : ℕ → Option Instruction
@@ -78,7 +78,7 @@ major_row LOAD = record { opcode = 0x03; meaning = load }
 major_row STORE = record { opcode = 0x23; meaning = store }
 major_row OPIMM = record { opcode = 0x13; meaning = register_immediate }
 major_row OP = record { opcode = 0x33; meaning = register_register }
-major_row SYSTEM = record { opcode = 0x73; meaning = read_counter }
+major_row SYSTEM = record { opcode = 0x73; meaning = read_csr }
 
 abbrev pub majors : List Major
 majors = LUI ∷ AUIPC ∷ JAL ∷ JALR ∷ BRANCH ∷ LOAD ∷ STORE ∷ OPIMM ∷ OP ∷ SYSTEM ∷ []

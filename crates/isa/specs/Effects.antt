@@ -1,16 +1,16 @@
--- What an instruction asks for, by its name: of a register, of the counter, of memory.
+-- What an instruction asks for, by its name: of a register, of the program counter, of memory.
 use Rattle.std.specs.Prelude.{ℕ, ◌-◌, ◌%◌, Bool, ℤ, pos, ◌+ℤ◌}
 use Rattle.isa.specs.declared.register.Register.{Register}
 use Rattle.isa.specs.declared.register.Registers.{Registers}
 use Rattle.isa.specs.declared.instruction.LoadWidth.{LoadWidth}
 use Rattle.isa.specs.declared.instruction.StoreWidth.{StoreWidth}
 use Rattle.isa.specs.declared.instruction.Instruction.{Instruction}
-use Rattle.isa.specs.declared.instruction.Instruction.TheVariants.{Lui, Auipc, Jal, Jalr, Branch, Load, Store, RegisterImmediate, RegisterRegister, ReadCounter}
+use Rattle.isa.specs.declared.instruction.Instruction.TheVariants.{Lui, Auipc, Jal, Jalr, Branch, Load, Store, RegisterImmediate, RegisterRegister, ReadCsr}
 use Rattle.isa.specs.Integers.{remainder}
 use Rattle.isa.specs.Registers.{held}
 use Rattle.isa.specs.Operations.{computed}
 use Rattle.isa.specs.Conditions.{holds}
-use Rattle.isa.specs.Counters.{counter_value}
+use Rattle.isa.specs.Csrs.{csr_value}
 
 -- an address and an offset, which wrap at 2 ^ 32
 abbrev pub offset_by : ℕ → ℤ → ℕ
@@ -39,4 +39,4 @@ effect_of (Load width rd base offset) rs pc clock = loads width rd (offset_by (h
 effect_of (Store width base source offset) rs pc clock = stores width (offset_by (held rs base) offset) (held rs source)
 effect_of (RegisterImmediate operation rd source value) rs pc clock = sets rd (computed operation (held rs source) (remainder 32 value))
 effect_of (RegisterRegister operation rd left right) rs pc clock = sets rd (computed operation (held rs left) (held rs right))
-effect_of (ReadCounter rd counter) rs pc clock = sets rd (counter_value counter clock)
+effect_of (ReadCsr rd csr) rs pc clock = sets rd (csr_value csr clock)

@@ -1,7 +1,7 @@
 -- The word of an instruction, and which instructions have one.
 use Rattle.std.specs.Prelude.{◌≡◌, ℕ, ◌+◌, ◌-◌, ◌*◌, ◌^◌, ◌⊎◌, ℤ, pos, neg_ℤ, ◌≤ℤ◌, ◌<ℤ◌}
 use Rattle.isa.specs.declared.instruction.Instruction.{Instruction}
-use Rattle.isa.specs.declared.instruction.Instruction.TheVariants.{Lui, Auipc, Jal, Jalr, Branch, Load, Store, RegisterImmediate, RegisterRegister, ReadCounter}
+use Rattle.isa.specs.declared.instruction.Instruction.TheVariants.{Lui, Auipc, Jal, Jalr, Branch, Load, Store, RegisterImmediate, RegisterRegister, ReadCsr}
 use Rattle.isa.specs.Formats.{r_format, i_format, s_format, b_format, u_format, j_format}
 use Rattle.isa.specs.Integers.{remainder}
 use Rattle.isa.specs.Tables.{Listed}
@@ -9,7 +9,7 @@ use Rattle.isa.specs.Operations.{operation_number, funct3_of, funct7_of, constan
 use Rattle.isa.specs.Conditions.{condition_number}
 use Rattle.isa.specs.Loads.{load_number}
 use Rattle.isa.specs.Stores.{store_number}
-use Rattle.isa.specs.Counters.{counter_number, read_and_set, no_source}
+use Rattle.isa.specs.Csrs.{csr_number, read_and_set, no_source}
 use Rattle.isa.specs.Decoding.{Major, opcode_of, jalr_number}
 
 abbrev pub encoding : Instruction → ℕ
@@ -27,7 +27,7 @@ encoding (RegisterImmediate operation rd source value) =
     i_format (funct7_of operation * 2 ^ 5 + remainder 12 value) source.index (funct3_of operation) rd.index (opcode_of Major.OPIMM)
 encoding (RegisterRegister operation rd left right) =
     r_format (funct7_of operation) right.index left.index (funct3_of operation) rd.index (opcode_of Major.OP)
-encoding (ReadCounter rd counter) = i_format (counter_number counter) no_source read_and_set rd.index (opcode_of Major.SYSTEM)
+encoding (ReadCsr rd csr) = i_format (csr_number csr) no_source read_and_set rd.index (opcode_of Major.SYSTEM)
 
 -- a number that `width` bits can hold in two's complement
 abbrev pub Within : ℕ → ℤ → Type 0
@@ -50,4 +50,4 @@ Encodable (RegisterImmediate operation rd source value) =
     (Listed funct3_of constants operation × Within 12 value)
     ⊎ (Listed operation_number shifts operation × (pos 0 ≤ℤ value) × (value <ℤ pos 32))
 Encodable (RegisterRegister operation rd left right) = Unit {0}
-Encodable (ReadCounter rd counter) = Unit {0}
+Encodable (ReadCsr rd csr) = Unit {0}

@@ -8,7 +8,7 @@ pub mod Conditions
 pub mod Memory
 pub mod Loads
 pub mod Stores
-pub mod Counters
+pub mod Csrs
 pub mod Decoding
 pub mod Encoding
 pub mod Effects

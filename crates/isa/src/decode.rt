@@ -1,7 +1,7 @@
 // From words to instructions. Every word that the tables do not have is illegal.
 ghost use Rattle.std.specs.Prelude.{◌≡◌};
 ghost use Rattle.std.specs.Result.{result_ok};
-ghost use Rattle.isa.specs.Decoding.{branch, decoded, jalr, load, read_counter, register_immediate, register_register, store};
+ghost use Rattle.isa.specs.Decoding.{branch, decoded, jalr, load, read_csr, register_immediate, register_register, store};
 
 use crate::fields::*;
 use crate::instruction::*;
@@ -96,15 +96,12 @@ fn register_register(word: u32) -> Result<Instruction, Illegal>
 }
 
 // CSRRS of a counter from register 0, which sets nothing.
-fn read_counter(word: u32) -> Result<Instruction, Illegal>
-    ensures { result_ok result ≡ read_counter word }
+fn read_csr(word: u32) -> Result<Instruction, Illegal>
+    ensures { result_ok result ≡ read_csr word }
 {
     if funct3(word) == 2 && bits(word, 15, 5) == 0 {
-        let counter = Counter::try_from(bits(word, 20, 12))?;
-        Ok(Instruction::ReadCounter {
-            rd: rd(word),
-            counter,
-        })
+        let csr = Csr::try_from(bits(word, 20, 12))?;
+        Ok(Instruction::ReadCsr { rd: rd(word), csr })
     } else {
         Err(Illegal)
     }
@@ -135,7 +132,7 @@ impl TryFrom<u32> for Instruction {
             0x23 => store(word),
             0x13 => register_immediate(word),
             0x33 => register_register(word),
-            0x73 => read_counter(word),
+            0x73 => read_csr(word),
             _ => Err(Illegal),
         }
     }

@@ -43,9 +43,9 @@ pub enum StoreWidth {
     Word,
 }
 
-// The counters that a program may read.
+// The CSRs that a program may read.
 #[derive(Clone, Copy)]
-pub enum Counter {
+pub enum Csr {
     Cycle,
     Time,
     CycleHigh,
@@ -100,8 +100,8 @@ pub enum Instruction {
         left: Register,
         right: Register,
     },
-    ReadCounter {
+    ReadCsr {
         rd: Register,
-        counter: Counter,
+        csr: Csr,
     },
 }

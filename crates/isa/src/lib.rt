@@ -3,7 +3,7 @@
 
 pub mod alu;
 pub mod branch;
-pub mod counter;
+pub mod csr;
 pub mod decode;
 pub mod decoder;
 mod fields;

@@ -1,12 +1,12 @@
 // Reading the numbers of the manual's tables.
 ghost use Rattle.isa.specs.Conditions.{condition_number, conditions};
-ghost use Rattle.isa.specs.Counters.{counter_number, counters};
+ghost use Rattle.isa.specs.Csrs.{csr_number, csrs};
 ghost use Rattle.isa.specs.Loads.{load_number, loads};
 ghost use Rattle.isa.specs.Operations.{ReadsOperation};
 ghost use Rattle.isa.specs.Stores.{store_number, stores};
 ghost use Rattle.isa.specs.Tables.{ReadAs};
 
-use crate::instruction::{Condition, Counter, LoadWidth, Operation, StoreWidth};
+use crate::instruction::{Condition, Csr, LoadWidth, Operation, StoreWidth};
 
 // A number that its table doesn't have, or a word that has one and so is no instruction.
 #[derive(Clone, Copy)]
@@ -66,16 +66,16 @@ impl TryFrom<u32> for StoreWidth {
 }
 
 // By the number among the control and status registers.
-impl TryFrom<u32> for Counter {
+impl TryFrom<u32> for Csr {
     type Error = Illegal;
 
-    ghost try_from_gives = { ReadAs counter_number counters };
+    ghost try_from_gives = { ReadAs csr_number csrs };
 
     fn try_from(number: u32) -> Result<Self, Illegal> {
         match number {
-            0xc00 => Ok(Counter::Cycle),
-            0xc01 => Ok(Counter::Time),
-            0xc80 => Ok(Counter::CycleHigh),
+            0xc00 => Ok(Csr::Cycle),
+            0xc01 => Ok(Csr::Time),
+            0xc80 => Ok(Csr::CycleHigh),
             _ => Err(Illegal),
         }
     }

@@ -8,4 +8,4 @@ pub record Inside : Type 0 where
 
 -- at most n steps of the program that runs, none of which begins when the clock has come to `stop`
 abbrev pub onward : ℕ → ℕ → Inside → Inside
-onward stop n x = record { who = x.who; now = until stop n x.now }
+onward stop n x = record x { now = until stop n x.now }

@@ -1,8 +1,7 @@
 -- The switch after a slot: its copies, and the cycles of its work.
-use Rattle.std.specs.Prelude.{ℕ, ◌+◌, ◌*◌, cond, ◌&&◌, List, fold}
-use Rattle.std.proofs.Math.Seq.{paste}
+use Rattle.std.specs.Prelude.{ℕ, ◌+◌, ◌*◌, List, fold}
 use Rattle.costs.specs.Costs.{write_back}
-use Rattle.words.specs.Frames.{contents, lent}
+use Rattle.words.specs.Frames.{copied_words}
 use Rattle.tables.specs.declared.Tables.{Tables}
 use Rattle.tables.specs.Cache.{dirty_count}
 use Rattle.plan.specs.declared.model.Plan.{Plan}
@@ -14,10 +13,6 @@ use Rattle.checker.specs.Pages.{frames_at}
 -- the frames that a channel joins
 abbrev pub frames_of : Accepted → ℕ → ChannelFrames
 frames_of a k = frames_at a.frames k
-
--- the words after so many of one frame are copied over those of another; nothing is copied where one of the frames is not lent
-abbrev pub copied_words : List ℕ → ℕ → ℕ → ℕ → List ℕ
-copied_words words from to count = cond (lent words from && lent words to) (paste words (to * 1024) (contents words from) count) words
 
 -- the words after a copy between the frames that its channel joins
 abbrev pub carried : Accepted → List ℕ → Copy → List ℕ

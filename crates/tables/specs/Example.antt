@@ -29,17 +29,17 @@ cost tables access address =
     let answer = lookup tables access address in
     cycles (record plain { data_walked = answer.walked; cache = access_use tables.cache (line_at answer address) })
 
-abbrev pub next : Tables → Access → ℕ → Tables
-next tables access address = record tables {
+abbrev pub after_use : Tables → Access → ℕ → Tables
+after_use tables access address = record tables {
   cache = accessed tables.cache (line_at (lookup tables access address) address) (is_store access);
   tlb = filled tables.tlb (address / 4096) access (walked small 0 (address / 4096));
 }
 
 abbrev pub stored : Tables
-stored = next first_tables Store 0x11A44
+stored = after_use first_tables Store 0x11A44
 
 abbrev pub loaded : Tables
-loaded = next stored Load 0x12A44
+loaded = after_use stored Load 0x12A44
 
 -- a store to page 17, and two loads from 4,096 bytes further on
 pub record Example : Type 0 where

@@ -19,6 +19,10 @@ written words frame offset value = slice_set words (frame * 1024 + offset) value
 abbrev pub contents : List ℕ → ℕ → List ℕ
 contents words frame = between (frame * 1024) (frame * 1024 + 1024) words
 
--- the words after frame `from` is copied over frame `to`; nothing is copied where one of them is not lent
+-- the words after so many of one frame are copied over those of another; nothing is copied where one of the frames is not lent
+abbrev pub copied_words : List ℕ → ℕ → ℕ → ℕ → List ℕ
+copied_words words from to count = cond (lent words from && lent words to) (paste words (to * 1024) (contents words from) count) words
+
+-- and after all of them are
 abbrev pub copied : List ℕ → ℕ → ℕ → List ℕ
-copied words from to = cond (lent words from && lent words to) (paste words (to * 1024) (contents words from) 1024) words
+copied words from to = copied_words words from to 1024

@@ -217,8 +217,8 @@ impl Stepper {
                 self.core.context.set(rd, result);
                 plain.cycles()
             }
-            Instruction::ReadCounter { rd, counter } => {
-                self.core.context.set(rd, counter.value(self.core.clock));
+            Instruction::ReadCsr { rd, csr } => {
+                self.core.context.set(rd, csr.value(self.core.clock));
                 plain.cycles()
             }
         }
