@@ -34,7 +34,7 @@ fn halves_of_the_clock(rt: HostRuntime) {
         lay_out_code(&mut words, code);
         let mut core = ready();
         core.clock = 0x5_0000_0007;
-        stepper.load(core);
+        stepper.load(core.context, &core.tables, core.root, core.clock);
         assert_eq!(rt; stepper.step(&mut words), 31);
         assert_eq!(rt;
             stepper.core.context.registers.read(Register::new(5)),
@@ -54,7 +54,7 @@ fn a_byte_stored(rt: HostRuntime) {
         let mut core = ready();
         core.context.registers.write(Register::new(1), address);
         core.context.registers.write(Register::new(2), 0x1234_56ff);
-        stepper.load(core);
+        stepper.load(core.context, &core.tables, core.root, core.clock);
         assert_eq!(rt; stepper.step(&mut words), cost);
         assert_eq!(rt; read(&words, 3, 0), word);
     }

@@ -1,4 +1,4 @@
--- Which frames are page-table frames of a root, and which its tables name, as tests.
+-- Which frames are page-table frames of a root, and which its tables reference, as tests.
 use Rattle.std.specs.Prelude.{ℕ, Bool, ◌&&◌, ◌||◌, List, ◌==◌}
 use Rattle.ranges.specs.Questions.{any}
 use Rattle.words.specs.Frames.{word}

@@ -30,7 +30,7 @@ referenced_through words tables frame table = marked tables table && references_
 abbrev pub Known : List ℕ → Marks → Type 0
 Known words marks = (f : ℕ) → f < 256 → marked marks f ≡ true → table_fault words f ≡ None
 
--- while a root is read: the tables so far are without fault, and what they name is marked
+-- while a root is read: the tables so far are without fault, and what they reference is marked
 abbrev pub Gathered : List ℕ → Claims → Type 0
 Gathered words claims = Known words claims.page_tables × Shows claims.referenced (λ f. any (referenced_through words claims.page_tables f) 256)
 

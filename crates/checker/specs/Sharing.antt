@@ -1,4 +1,4 @@
--- The rules on the frames that partitions name, as tests.
+-- The rules on the frames that partitions reference, as tests.
 use Rattle.std.specs.Prelude.{ℕ, Bool, not, ◌&&◌, ◌||◌, List, Option}
 use Rattle.ranges.specs.Questions.{any}
 use Rattle.words.specs.Frames.{lent}

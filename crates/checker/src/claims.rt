@@ -1,4 +1,4 @@
-// What partitions claim: the frames that their tables name, and their page-table frames, which are roots and tables.
+// What partitions claim: the frames that their tables reference, and their page-table frames, which are roots and tables.
 ghost use Rattle.std.specs.Prelude.{◌≡◌, ◌||◌};
 ghost use Rattle.ranges.specs.Questions.{any};
 ghost use Rattle.checker.specs.Sharing.{clash};
@@ -7,7 +7,7 @@ ghost use Rattle.checker.specs.Scaffold.{Shows, clash_claims, marked};
 use crate::marks::Marks;
 use paging::walk::MOST_FRAMES;
 
-// `referenced` and `kernel` of a partition, `others` and `tables` of those before it.
+// `referenced` and `page_tables` of a partition, `others` and `tables` of those before it.
 #[tactic(auto, unfolding(crate::specs::Sharing::clash))]
 fn clashes(referenced: bool, page_tables: bool, others: bool, tables: bool) -> bool
     ensures { result ≡ clash referenced page_tables others tables }

@@ -1,4 +1,4 @@
-// The rules on the frames that partitions name: none is referenced by two, none is a page-table frame, and all are lent.
+// The rules on the frames that partitions reference: none is referenced by two, none is a page-table frame, and all are lent.
 // Words and plan, or words and root, are two parameters, as lib.rt says.
 ghost use Rattle.std.specs.Prelude.{◌≡◌, not, IfOk};
 ghost use Rattle.ranges.specs.Questions.{any, first, unless};
@@ -16,7 +16,7 @@ use plan::model::Plan;
 use plan::refusal::Refusal;
 use words::frames::is_lent;
 
-// What all partitions name, and the refusal of the first that shares a frame.
+// What all partitions reference, and the refusal of the first that shares a frame.
 #[derive(Clone, Copy)]
 pub(crate) struct Naming {
     referenced: Marks,

@@ -108,7 +108,9 @@ impl Runner for Machine {
 
     // Registers, counter, tables and clock as at first.
     fn restart(&mut self) {
-        self.stepper.load(Core::new(0, CODE));
+        let core = Core::new(0, CODE);
+        self.stepper
+            .load(core.context, &core.tables, core.root, core.clock);
     }
 
     fn set(&mut self, register: u32, value: u32) {

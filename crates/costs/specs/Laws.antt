@@ -2,7 +2,7 @@
 use Rattle.std.specs.Prelude.{◌≡◌, ◌≤◌, true, false}
 use Rattle.costs.specs.declared.used.CacheUse.TheVariants.{Unused, DirtyMiss}
 use Rattle.costs.specs.declared.used.Used.{Used}
-use Rattle.costs.specs.Costs.{copied_word, instruction, worst_branch, worst_instruction, worst_switch}
+use Rattle.costs.specs.Costs.{cache_lines, copied_word, instruction, worst_branch, worst_instruction, worst_switch}
 use Rattle.costs.specs.Cycles.{cycles, plain}
 
 -- an instruction takes at least its own cycle. One that the predictor did not get wrong takes no more than the worst case, and a branch,
@@ -21,3 +21,4 @@ pub record Numbers : Type 0 where
   pub is_34 : worst_branch ≡ 34
   pub is_730 : worst_switch ≡ 730
   pub a_word : copied_word ≡ 1
+  pub lines : cache_lines ≡ 64

@@ -24,7 +24,7 @@ abbrev four_words : List ℕ
 four_words = with_page (mapped_in 5120) 18 0x10D5
 
 module _ (c : ℕ) where
-  -- the words that are not referenced above are 0
+  -- the words that are not named above are 0
   blank : (i : ℕ) → i < 4096 → i ≢ 0 → i ≢ 1040 → i ≢ 1041 → i ≢ 1042 → get_or (five_frames c) i 0 ≡ 0
   blank i l a b d e =
       let f : i ≢ 4096 = omega arith in

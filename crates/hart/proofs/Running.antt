@@ -7,8 +7,7 @@ use Rattle.hart.specs.declared.context.State.TheVariants.{Ready, Stopped}
 use Rattle.hart.specs.declared.step.Core.{Core}
 use Rattle.hart.specs.Core.{leads_to, on_time, fetch_step, program_step, stepped}
 use Rattle.hart.specs.Execution.{is_ready}
-use Rattle.hart.specs.Moments.{Moment, latest, next, until}
-use Rattle.hart.specs.Scaffold.{moment}
+use Rattle.hart.specs.Moments.{Moment, latest, moment, next, until}
 use Rattle.hart.proofs.Stepping.{steps}
 
 -- before the latest time the clock does not wrap

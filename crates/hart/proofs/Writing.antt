@@ -21,7 +21,7 @@ use Rattle.hart.specs.declared.step.Core.{Core}
 use Rattle.isa.specs.Memory.{is_aligned}
 use Rattle.isa.specs.Stores.{stored}
 use Rattle.hart.specs.Core.{stepped}
-use Rattle.hart.specs.Architecture.{Outcome, access_does, architecture, does, fetch_does, instruction_does, load_at, place_does, program_does, store_at, word_at}
+use Rattle.hart.specs.Architecture.{Outcome, access_does, architecture, does, fetch_does, instruction_does, load_at, physical_does, program_does, store_at, word_at}
 use Rattle.hart.specs.Laws.{StoredOwn, WritesOwn}
 use Rattle.hart.proofs.Agreeing.{agreement}
 
@@ -38,7 +38,7 @@ Few ws root vs = (vs ≡ ws) ⊎ StoredOwn ws vs root
 module _ (core : Core) (ws : List ℕ) where
   -- an access, whose place a page of the root leads to
   place_few : (access : Access) (address : ℕ) (at : PhysicalAddress → Outcome) → ((physical : PhysicalAddress) → Reaches ws core.root address access physical → Few ws core.root (at physical).words) →
-      (found : Result PhysicalAddress PageFault) → found ≡ translated ws core.root address access → Few ws core.root (place_does core.context ws access at found).words
+      (found : Result PhysicalAddress PageFault) → found ≡ translated ws core.root address access → Few ws core.root (physical_does core.context ws access at found).words
   place_few access address at few (Ok physical) e = few physical ((translates ws core.root address access (Ok physical) e).reaches physical refl)
   place_few access address at few (Err fault) e = inl refl
 

@@ -31,11 +31,11 @@ pub record Outcome : Type 0 where
 abbrev pub outcome : Context → List ℕ → Outcome
 outcome x ws = record { context = x; words = ws }
 
--- the word that a place lies in
+-- the word that a physical address lies in
 abbrev pub word_at : List ℕ → PhysicalAddress → ℕ
 word_at ws physical = word ws physical.frame (physical.offset / 4)
 
--- a load and a store, at the place that the address leads to
+-- a load and a store, at the physical address that the address leads to
 abbrev pub load_at : Context → List ℕ → LoadWidth → Register → ℕ → PhysicalAddress → Outcome
 load_at x ws width rd address physical = outcome (register_set x rd (loaded width (word_at ws physical) address)) ws
 
@@ -43,14 +43,14 @@ abbrev pub store_at : Context → List ℕ → StoreWidth → ℕ → ℕ → Ph
 store_at x ws width address value physical =
     outcome (goes_on x (next_pc x)) (written ws physical.frame (physical.offset / 4) (stored width (word_at ws physical) address value))
 
--- an access to memory, done at its place. It stops the program if its address is not aligned, or leads to none
-abbrev pub place_does : Context → List ℕ → Access → (PhysicalAddress → Outcome) → Result PhysicalAddress PageFault → Outcome
-place_does x ws access at (Ok physical) = at physical
-place_does x ws access at (Err fault) = outcome (stopped x (fault_cause access)) ws
+-- an access to memory, done at its physical address. It stops the program if its address is not aligned, or leads to none
+abbrev pub physical_does : Context → List ℕ → Access → (PhysicalAddress → Outcome) → Result PhysicalAddress PageFault → Outcome
+physical_does x ws access at (Ok physical) = at physical
+physical_does x ws access at (Err fault) = outcome (stopped x (fault_cause access)) ws
 
 abbrev pub access_does : Core → List ℕ → Access → ℕ → ℕ → (PhysicalAddress → Outcome) → Outcome
 access_does core ws access bytes address at =
-    cond (is_aligned bytes address) (place_does core.context ws access at (translated ws core.root address access))
+    cond (is_aligned bytes address) (physical_does core.context ws access at (translated ws core.root address access))
     (outcome (stopped core.context (misaligned_cause access)) ws)
 
 -- what an instruction asks for, done

@@ -9,7 +9,7 @@ use Rattle.paging.specs.Small.{mapped_in, with_page}
 abbrev pub five_frames : ℕ → List ℕ
 five_frames content = written (with_page (mapped_in 5120) 18 0x10D5) 4 0 content
 
--- the tables name none of themselves; and whatever a frame holds that they name and no page maps to, the programs of the root see the same
+-- the tables reference none of themselves; and whatever a frame holds that they reference and no page maps to, the programs of the root see the same
 pub record Example : Type 0 where
   pub apart : (content : ℕ) → TablesApart (five_frames content) 0
   pub referenced : (content : ℕ) → References (five_frames content) 0 4

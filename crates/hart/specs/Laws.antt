@@ -20,7 +20,7 @@ pub record Agrees (core : Core) (ws : List ℕ) : Type 0 where
 abbrev pub Agreement : Type 0
 Agreement = (core : Core) (ws : List ℕ) → Coherent core.tables.tlb ws core.root → Agrees core ws
 
--- no frame that the tables of a root name is one of its tables, or the root itself
+-- no frame that the tables of a root reference is one of its tables, or the root itself
 abbrev pub TablesApart : List ℕ → ℕ → Type 0
 TablesApart ws root = (frame : ℕ) → References ws root frame → PageTableFrame ws root frame → ⊥
 
@@ -32,7 +32,7 @@ CoherentAfter core ws = Coherent (stepped core ws).core.tables.tlb (stepped core
 abbrev pub KeepsCoherent : Type 0
 KeepsCoherent = (core : Core) (ws : List ℕ) → SameTables ws (stepped core ws).words core.root → Coherent core.tables.tlb ws core.root → CoherentAfter core ws
 
--- and so does every step of a root whose tables name none of them
+-- and so does every step of a root whose tables reference none of them
 abbrev pub StaysCoherent : Type 0
 StaysCoherent = (core : Core) (ws : List ℕ) → TablesApart ws core.root → Coherent core.tables.tlb ws core.root → CoherentAfter core ws
 
@@ -65,7 +65,7 @@ pub record StoredOwn (ws vs : List ℕ) (root : ℕ) : Type 0 where
   pub inside : offset < 1024
   pub stored : vs ≡ written ws leaf.frame offset value
 
--- at most that one word changes, and so none in a frame that the tables of the root do not name
+-- at most that one word changes, and so none in a frame that the tables of the root do not reference
 pub record Writes (core : Core) (ws : List ℕ) : Type 0 where
   pub one_word : ((stepped core ws).words ≡ ws) ⊎ StoredOwn ws (stepped core ws).words core.root
   pub others : (frame k : ℕ) → (References ws core.root frame → ⊥) → k < 1024 → word (stepped core ws).words frame k ≡ word ws frame k
@@ -73,7 +73,7 @@ pub record Writes (core : Core) (ws : List ℕ) : Type 0 where
 abbrev pub WritesOwn : Type 0
 WritesOwn = (core : Core) (ws : List ℕ) → Coherent core.tables.tlb ws core.root → Writes core ws
 
--- where no frame that the tables name is one of the tables, a step leaves the tables as they are,
+-- where no frame that the tables reference is one of the tables, a step leaves the tables as they are,
 -- and so two memories that are the same as far as the programs of a root reach are so again
 pub record OwnAgain (core : Core) (ws : List ℕ) : Type 0 where
   pub tables : SameTables ws (stepped core ws).words core.root

@@ -11,8 +11,12 @@ pub record Moment : Type 0 where
   pub words : List ℕ
   pub instructions : ℕ
 
+-- a core with the lent words, after so many instructions
+abbrev pub moment : Core → List ℕ → ℕ → Moment
+moment core ws instructions = record { core = core; words = ws; instructions = instructions }
+
 abbrev pub begin : Core → List ℕ → Moment
-begin core ws = record { core = core; words = ws; instructions = 0 }
+begin core ws = moment core ws 0
 
 -- one step; a stopped program uses up a cycle, which is no instruction
 abbrev pub next : Moment → Moment

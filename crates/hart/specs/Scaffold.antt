@@ -11,7 +11,6 @@ use Rattle.costs.specs.Cycles.{walk_cycles}
 use Rattle.hart.specs.Causes.{fault_cause}
 use Rattle.hart.specs.Execution.{stopped}
 use Rattle.hart.specs.Core.{Step, after_lookup, executed}
-use Rattle.hart.specs.Moments.{Moment}
 
 -- after a look-up, which stops a program whose access faults
 abbrev pub unless_fault : Context → Access → Option ℕ → Context
@@ -27,7 +26,3 @@ opened found = record { frame = found.frame; cycles = walk_cycles found.walked }
 
 abbrev pub execution_of : Core → List ℕ → Instruction → Step
 execution_of core ws i = executed core ws (effect_of i core.context.registers core.context.pc core.clock)
-
--- a core with the lent words, after so many instructions
-abbrev pub moment : Core → List ℕ → ℕ → Moment
-moment core ws instructions = record { core = core; words = ws; instructions = instructions }

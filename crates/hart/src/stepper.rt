@@ -6,15 +6,17 @@ ghost use Rattle.costs.specs.Cycles.{cycles};
 ghost use Rattle.paging.specs.declared.access.Access.TheVariants.{Fetch};
 ghost use Rattle.tables.specs.Tlb.{found, hit};
 ghost use Rattle.hart.specs.Core.{fetch_step, looked_up, on_time, stepped};
-ghost use Rattle.hart.specs.Moments.{run_until};
-ghost use Rattle.hart.specs.Scaffold.{faulted, moment, opened};
+ghost use Rattle.hart.specs.Moments.{moment, run_until};
+ghost use Rattle.hart.specs.Scaffold.{faulted, opened};
 
+use crate::context::Context;
 use crate::step::Core;
 use costs::used::walk_cycles;
 use costs::{INSTRUCTION, WORST_INSTRUCTION};
 use isa::decoder::Decoder;
 use paging::access::Access;
 use paging::physical::PAGE_BYTES;
+use tables::Tables;
 use tables::tlb::Lookup;
 use words::frames;
 
@@ -77,11 +79,14 @@ impl Stepper {
         }
     }
 
-    // The next program: nothing is kept but decodings.
-    pub fn load(&mut self, core: Core)
-        ensures { self.new.core ≡ core }
+    // The next program, in tables as they are: nothing is kept but decodings. Its parts and no `Core`, whose copy would be made twice.
+    pub fn load(&mut self, context: Context, tables: &Tables, root: u32, clock: u64)
+        ensures { self.new.core ≡ record { context = context; tables = tables.now; root = root; clock = clock } }
     {
-        self.core = core;
+        self.core.context = context;
+        self.core.tables = *tables;
+        self.core.root = root;
+        self.core.clock = clock;
         self.window = None;
     }
 

@@ -40,7 +40,7 @@ abbrev pub register_register : ℕ → Option Instruction
 register_register w =
     option_and_then (λ o. Some (RegisterRegister o (rd w) (rs1 w) (rs2 w))) (numbered operation_number operations (funct7 w * 8 + funct3 w))
 
--- CSRRS of a counter from register 0
+-- CSRRS of a CSR from register 0
 abbrev pub read_csr : ℕ → Option Instruction
 read_csr w =
     cond (funct3 w == read_and_set && field w 15 5 == no_source)

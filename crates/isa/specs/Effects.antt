@@ -28,7 +28,7 @@ pub data Effect : Type 0 where
   -- a value goes to memory
   stores : StoreWidth → ℕ → ℕ → Effect
 
--- each instruction by its name, from the registers, the counter and the clock. JALR clears the lowest bit of its target
+-- each instruction by its name, from the registers, the program counter and the clock. JALR clears the lowest bit of its target
 abbrev pub effect_of : Instruction → Registers → (pc : ℕ) → (clock : ℕ) → Effect
 effect_of (Lui rd value) rs pc clock = sets rd (remainder 32 value)
 effect_of (Auipc rd value) rs pc clock = sets rd (offset_by pc value)

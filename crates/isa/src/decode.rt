@@ -95,7 +95,7 @@ fn register_register(word: u32) -> Result<Instruction, Illegal>
     })
 }
 
-// CSRRS of a counter from register 0, which sets nothing.
+// CSRRS of a CSR from register 0, which sets nothing.
 fn read_csr(word: u32) -> Result<Instruction, Illegal>
     ensures { result_ok result ≡ read_csr word }
 {

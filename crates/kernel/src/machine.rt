@@ -58,7 +58,7 @@ impl Machine {
         if who >= MOST_PARTITIONS || self.turn == u32::MAX || self.clock >= LATEST {
             return None;
         }
-        stepper.load(self.core_for(&accepted.plan, slot.partition));
+        self.enter(&accepted.plan, slot.partition, stepper);
         let instructions = stepper.run_until(words, self.clock + u64::from(slot.length));
         let core = &stepper.core;
         self.contexts[who] = core.context;
@@ -76,18 +76,14 @@ impl Machine {
         Some(report)
     }
 
-    // The core as a partition's program finds it.
-    fn core_for(&self, plan: &Plan, who: u8) -> Core
+    // Puts a partition's program on a stepper, as it finds the core.
+    fn enter(&self, plan: &Plan, who: u8, stepper: &mut Stepper)
         requires { who < 8 }
-        ensures { result ≡ core_for plan.now self.now who }
+        ensures { stepper.new.core ≡ core_for plan.now self.now who }
     {
-        let who = who as usize;
-        Core {
-            context: self.contexts[who],
-            tables: self.tables,
-            root: u32::from(plan.partition(who).root),
-            clock: self.clock,
-        }
+        let who = usize::from(who);
+        let root = u32::from(plan.partition(who).root);
+        stepper.load(self.contexts[who], &self.tables, root, self.clock);
     }
 
     // The switch after a slot that a core has run to its end, but for the words of its messages:

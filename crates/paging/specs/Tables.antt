@@ -1,4 +1,4 @@
--- Which frames the page tables of a root are made of, which frames they name, and when two memories hold the same tables.
+-- Which frames the page tables of a root are made of, which frames they reference, and when two memories hold the same tables.
 use Rattle.std.specs.Prelude.{◌≡◌, ℕ, ◌<◌, true, ◌⊎◌, List}
 use Rattle.words.specs.Frames.{lent, word}
 use Rattle.paging.specs.Entries.{frame_of, is_valid}
@@ -24,7 +24,7 @@ pub record References (words : List ℕ) (root frame : ℕ) : Type 0 where
 abbrev pub PageTableFrame : List ℕ → ℕ → ℕ → Type 0
 PageTableFrame words root frame = (frame ≡ root) ⊎ PointsTo words root frame
 
--- the frames of a root: itself, its tables, and the frames that they name
+-- the frames of a root: itself, its tables, and the frames that they reference
 abbrev pub Owns : List ℕ → ℕ → ℕ → Type 0
 Owns words root frame = PageTableFrame words root frame ⊎ References words root frame
 
@@ -32,7 +32,7 @@ Owns words root frame = PageTableFrame words root frame ⊎ References words roo
 abbrev pub SameTables : List ℕ → List ℕ → ℕ → Type 0
 SameTables ws vs root = (frame k : ℕ) → PageTableFrame ws root frame → k < 1024 → word vs frame k ≡ word ws frame k
 
--- of the root, its tables and the frames that they name, two memories lend the same; they may lend different numbers of frames
+-- of the root, its tables and the frames that they reference, two memories lend the same; they may lend different numbers of frames
 abbrev pub SameLent : List ℕ → List ℕ → ℕ → Type 0
 SameLent ws vs root = (frame : ℕ) → Owns ws root frame → lent vs frame ≡ lent ws frame
 

@@ -27,7 +27,7 @@ pub enum Refusal {
     RootRule(u8),
     // a partition's page tables are malformed
     TableMalformed(u8),
-    // a frame is named by this partition and an earlier one, or a page-table frame by either
+    // a frame is referenced by this partition and an earlier one, or a page-table frame by either
     FrameShared(u8),
     // a partition's start address is not a multiple of 4
     StartMisaligned(u8),

@@ -2,9 +2,9 @@
 use Rattle.std.proofs.Common.{◌≡◌, ℕ, suc, ◌+◌, ◌^◌, ◌<◌, List, Ok, arith}
 use Rattle.checker.specs.declared.Accepted.{Accepted}
 use Rattle.checker.specs.Checked.{checked}
-use Rattle.kernel.specs.Machine.{after_slots}
+use Rattle.kernel.specs.Machine.{after_slots, inside_after}
 use Rattle.separation.specs.Calls.{first}
-use Rattle.separation.specs.Each.{Confinement, Execution, MessagesArrive, OnTime, Progresses, StaysAccepted, SwitchesFit, TrueTranslation}
+use Rattle.separation.specs.Each.{Confinement, Execution, MessagesArrive, OnTime, OthersRest, Progresses, StaysAccepted, SwitchesFit, TrueTranslation}
 use Rattle.separation.specs.Promises.{SlotPromises}
 use Rattle.separation.proofs.Calling.{at, whole_run}
 
@@ -22,6 +22,10 @@ switches_fit bytes words a e k room = (of_slot bytes words a e k room).switch
 
 pub messages_arrive : MessagesArrive
 messages_arrive bytes words a e k room = (of_slot bytes words a e k room).messages
+
+pub others_rest : OthersRest
+unfolding inside_after
+others_rest bytes words a e k room q other n = other
 
 pub confinement : Confinement
 confinement bytes words a e k room = (of_slot bytes words a e k room).confined

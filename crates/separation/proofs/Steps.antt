@@ -195,7 +195,7 @@ module _ (stop : ℕ) (early : stop ≤ latest) where
   ready_by m (Stopped cause pc) e h =
       sym e ∙ sym (ap (λ s. s.core.context.state) ((steps m.core m.words).rests cause pc e)) ∙ h
 
-  -- each instruction of a program that stays ready takes at most the highest cost
+  -- each instruction of a program that stays ready takes at most the worst case
   pub record Counted (x y : Moment) : Type 0 where
     pub was : x.core.context.state ≡ Ready
     pub paid : y.core.clock + worst_instruction * x.instructions ≤ x.core.clock + worst_instruction * y.instructions

@@ -1,12 +1,12 @@
 -- Each promise by itself, over all slots of all runs of accepted plans.
-use Rattle.std.specs.Prelude.{◌≡◌, ℕ, suc, ◌+◌, ◌^◌, ◌<◌, Bool, List, Ok}
+use Rattle.std.specs.Prelude.{◌≡◌, ℕ, suc, ◌+◌, ◌^◌, ◌<◌, Bool, ◌≢◌, List, Ok}
 use Rattle.plan.specs.Timetable.{begins}
 use Rattle.checker.specs.declared.Accepted.{Accepted}
 use Rattle.checker.specs.Checked.{checked}
 use Rattle.kernel.specs.Machine.{System, after_slots}
 use Rattle.separation.specs.Agreement.{Agree, In, SameWords}
 use Rattle.separation.specs.Calls.{first}
-use Rattle.separation.specs.Promises.{Confined, Executes, Messages, Progress, Rests, Switches, TranslatesThroughout}
+use Rattle.separation.specs.Promises.{Confined, Executes, Messages, Progress, Rests, Switches, TranslatesThroughout, runs}
 
 -- of every slot of every run: the accepted plan, the system before the slot, and the one after its switch
 abbrev pub InEverySlot : (Accepted → System → System → Type 0) → Type 0
@@ -30,6 +30,10 @@ MessagesArrive = InEverySlot Messages
 
 abbrev pub Confinement : Type 0
 Confinement = InEverySlot (λ a s t. (q : ℕ) → q < a.plan.counts.partitions → Rests a s q → Confined a s t q)
+
+-- every partition but the slot's own runs after no step of it
+abbrev pub OthersRest : Type 0
+OthersRest = InEverySlot (λ a s t. (q : ℕ) → q ≢ runs a s → Rests a s q)
 
 abbrev pub TrueTranslation : Type 0
 TrueTranslation = InEverySlot (λ a s t. TranslatesThroughout a s)

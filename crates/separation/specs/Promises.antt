@@ -27,7 +27,7 @@ use Rattle.separation.specs.Running.{Running}
 abbrev pub runs : Accepted → System → ℕ
 runs a s = who_runs a.plan s.machine
 
--- the slot goes on to its end, and its last step ends there or less than the highest cost past it. The tables after the switch are in their first state, and
+-- the slot goes on to its end, and its last step ends there or less than the worst case past it. The tables after the switch are in their first state, and
 -- its work, write-backs and copies included, ends before the next slot begins: so when the next slot begins hides how many lines were dirty
 pub record Switches (a : Accepted) (s t : System) : Type 0 where
   pub reached : slot_end a.plan s.machine ≤ (ended a.plan s).now.core.clock
@@ -59,7 +59,7 @@ abbrev pub Rests : Accepted → System → ℕ → Type 0
 Rests a s q = (n : ℕ) → q ≢ (inside_after a.plan s n).who
 
 -- an instruction does to registers, counter, state and words what the architecture does, which knows no tables. It leaves the tables that the core leaves and takes
--- the core's cycles, one at least and the highest cost at most, and it is counted
+-- the core's cycles, one at least and the worst case at most, and it is counted
 pub record OneInstruction (x y : Moment) : Type 0 where
   pub context : y.core.context ≡ (architecture x.core x.words).context
   pub words : y.words ≡ (architecture x.core x.words).words
@@ -103,7 +103,7 @@ pub record Translates (a : Accepted) (s : System) (x : Inside) : Type 0 where
 abbrev pub TranslatesThroughout : Accepted → System → Type 0
 TranslatesThroughout a s = (n : ℕ) → Translates a s (inside_after a.plan s n)
 
--- a program that is still ready at the slot's end began at least as many instructions as the highest cost fits into the slot
+-- a program that is still ready at the slot's end began at least as many instructions as the worst case fits into the slot
 abbrev pub Progress : Accepted → System → Type 0
 Progress a s = (ended a.plan s).now.core.context.state ≡ Ready → (coming a.plan s.machine).length / worst_instruction ≤ (ended a.plan s).now.instructions
 

@@ -1,6 +1,6 @@
 // Every promise by itself. These functions do nothing: they owe the theorems in their contracts.
 ghost use Rattle.separation.specs.Agreement.{Noninterference, NotReached};
-ghost use Rattle.separation.specs.Each.{Confinement, Execution, LoadsAlike, MessagesArrive, OnTime, Progresses, StaysAccepted, SwitchesFit, TrueTranslation};
+ghost use Rattle.separation.specs.Each.{Confinement, Execution, LoadsAlike, MessagesArrive, OnTime, OthersRest, Progresses, StaysAccepted, SwitchesFit, TrueTranslation};
 ghost use Rattle.separation.specs.Promises.{KeepsPromises};
 
 // Every slot begins at the clock that the plan alone gives.
@@ -22,7 +22,8 @@ pub fn messages()
 
 // A partition's words, registers and state change only in its own slots and by messages to it.
 pub fn confinement()
-    ensures { Confinement }
+    ensures rests { Confinement }
+    ensures others { OthersRest }
 {}
 
 // A program goes on where it was, each step does what the architecture does, and what it has at the slot's end it keeps.
@@ -37,7 +38,7 @@ pub fn translation()
     ensures { TrueTranslation }
 {}
 
-// A program that stays ready runs at least as many instructions as the highest cost fits into its slot.
+// A program that stays ready runs at least as many instructions as the worst case fits into its slot.
 #[tactic(auto, using(crate::proofs::Each::progresses))]
 pub fn progress()
     ensures { Progresses }

@@ -1,4 +1,4 @@
--- What a look-up gives, and an coherent TLB.
+-- What a look-up gives, and a coherent TLB.
 use Rattle.std.proofs.Common.{◌≡◌, ℕ, zero, suc, ◌<◌, Bool, true, false, cond, eqb, List, length, get_or, replicate, is_some, Some, None, Option, sym, refl, ap, ◌∙◌, inl, inr, arith}
 use Rattle.std.proofs.lemmas.Nat.{mod_below}
 use Rattle.std.proofs.ByRecursion.{All-get_or, All-set, All-weaker}

@@ -26,7 +26,7 @@ reached_in (Some frame) address access = Ok (physical_in frame address)
 abbrev pub reached : Lookup → ℕ → Access → Result PhysicalAddress PageFault
 reached lookup address access = reached_in lookup.frame address access
 
--- a look-up gives what translation by the page tables gives, and leaves an coherent TLB
+-- a look-up gives what translation by the page tables gives, and leaves a coherent TLB
 pub record Truthful (after : Tlb) (words : List ℕ) (root page : ℕ) (access : Access) (lookup : Lookup) : Type 0 where
   pub still : Coherent after words root
   pub translates : (address : ℕ) → address / 4096 ≡ page → reached lookup address access ≡ translated words root address access

@@ -89,7 +89,7 @@ LoopsLeft = (address n : ℕ) → branch_costs first_predictor (loop_and_again a
 
 -- what the counter at a place stands at
 abbrev pub counter_at : Predictor → ℕ → ℕ
-counter_at predictor physical = slice_index predictor.counters physical
+counter_at predictor place = slice_index predictor.counters place
 
 -- what a branch does, said by the places of the counters: the branch at an address has the one at a quarter of it, modulo 64.
 -- That goes one up, at most to 3, if the branch is taken, and one down, at least to 0, if it is not. The counters of all other addresses stay.
@@ -132,7 +132,7 @@ pub record PagesRemembered (row : List PageUse) : Type 0 where
 abbrev pub RemembersPages : Type 0
 RemembersPages = (row : List PageUse) → PagesRemembered row
 
--- an coherent TLB answers what the page tables say, and stays coherent as long as every walk stays the same
+-- a coherent TLB answers what the page tables say, and stays coherent as long as every walk stays the same
 pub record Coherence : Type 0 where
   pub first : (words : List ℕ) (root : ℕ) → Coherent empty_tlb words root
   pub find : (tlb : Tlb) (words : List ℕ) (root page : ℕ) (access : Access) → Coherent tlb words root →

@@ -1,6 +1,7 @@
 -- What a whole run from two files promises, with no premise.
 use Rattle.std.specs.Prelude.{◌≡◌, ℕ, List, Ok, Err, Result}
 use Rattle.plan.specs.declared.refusal.Refusal.{Refusal}
+use Rattle.checker.specs.Checked.{checked}
 use Rattle.kernel.specs.Machine.{after_slots}
 use Rattle.image.specs.Frames.{image_words}
 use Rattle.admission.specs.Admitted.{Admits}
@@ -9,6 +10,7 @@ use Rattle.whole_run.specs.declared.Whole.{Whole}
 
 -- the plan is accepted with its image, the machine and the words are those of so many slots, and every promise of a whole run holds of them
 pub record RanFiles (bytes image : List ℕ) (n : ℕ) (w : Whole) : Type 0 where
+  pub judged : checked bytes (image_words image) ≡ Ok w.finished.session.accepted
   pub admitted : Admits bytes (image_words image) image (Ok w.finished.session.accepted)
   pub machine : w.finished ≡ finished w.finished.session.accepted (image_words image) n
   pub words : w.words.items ≡ (after_slots w.finished.session.accepted n (first w.finished.session.accepted (image_words image))).words

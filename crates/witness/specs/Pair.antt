@@ -1,4 +1,4 @@
--- Two systems that run one plan, agree on its first partition, and differ elsewhere: in the second's page tables, in the frames that they name, and in how many
+-- Two systems that run one plan, agree on its first partition, and differ elsewhere: in the second's page tables, in the frames that they reference, and in how many
 -- frames are lent; its program and data may be any. So the promises are about something.
 use Rattle.std.specs.Prelude.{◌≡◌, ℕ, ◌<◌, Bool, ◌≢◌, length, ◌==◌}
 use Rattle.words.specs.Frames.{word}

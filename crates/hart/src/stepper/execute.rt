@@ -126,7 +126,7 @@ impl Stepper {
         }
     }
 
-    // What the instruction asks for. One match over ten kinds, each arm a call: parts of it would be referenced by nothing.
+    // What the instruction asks for. One match over ten kinds, each arm a call: parts of it would have no name of their own.
     #[tactic(auto, using(crate::proofs::Stepping::load_words), unfolding(crate::specs::Core::executed))]
     fn execute(&mut self, instruction: Instruction, words: &mut [u32]) -> u32
         ensures cost { result ≡ cycles (execution_of self.old.core words.old instruction).used }

@@ -1,6 +1,6 @@
 -- What is left to show of `confinement`.
-use Rattle.separation.proofs.Each.{confinement}
+use Rattle.separation.proofs.Each.{confinement, others_rest}
 use Rattle.separation.proofs.promises.confinement.Goals as goal
 
 pub returns : goal.returns
-returns c = confinement
+returns c = record { others = others_rest; rests = confinement }

@@ -1,7 +1,7 @@
 -- The goals of `run_until`: a turn of the loop is a step, and where it ends the clock has come to the run's end, or the program waits for it.
+use Rattle.hart.specs.Moments.{moment}
 use Rattle.std.proofs.Common.{◌≡◌, ◌≤◌, false, ◌⊎◌, sym, ◌∙◌, inl, inr, arith}
 use Rattle.hart.specs.Execution.{is_ready}
-use Rattle.hart.specs.Scaffold.{moment}
 use Rattle.hart.proofs.Running.{done, later, turned}
 use Rattle.hart.proofs.stepper.Stepper.run_until.Goals as goal
 use Rattle.hart.proofs.stepper.Stepper.run_until.Goals.{then-loop-self-test+else-is_ready, else-loop-self-test}

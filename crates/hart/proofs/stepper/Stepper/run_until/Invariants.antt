@@ -1,7 +1,6 @@
 -- What holds whenever the loop comes round: what is left to run leads to where the run does.
 use Rattle.std.proofs.Common.{◌≡◌, ◌-◌, ◌≤◌}
-use Rattle.hart.specs.Moments.{latest, run_until, until}
-use Rattle.hart.specs.Scaffold.{moment}
+use Rattle.hart.specs.Moments.{latest, moment, run_until, until}
 use Rattle.hart.proofs.stepper.Stepper.run_until.Given as goal
 
 abbrev pub invariant-loop-self : goal.invariant-loop-self
