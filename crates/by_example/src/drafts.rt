@@ -37,7 +37,7 @@ impl Draft {
     }
 
     pub(crate) fn bytes(&self, heap: Global) -> Result<Vec<u8>, AllocError> {
-        let mut bytes = Vec::new(heap)?;
+        let mut bytes = Vec::new(heap);
         put(&mut bytes, &self.counts)?;
         put(&mut bytes, &self.budget.to_le_bytes())?;
         for partition in &self.partitions {

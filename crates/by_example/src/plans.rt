@@ -176,3 +176,22 @@ fn slots_go_round(rt: HostRuntime) -> Result<(), Fail> {
     assert_eq!(rt; plan.slot_of(u32::MAX).partition, 1);
     Ok(())
 }
+
+// along the channel, and nowhere where the plan counts none
+#[test]
+fn flows(rt: HostRuntime) -> Result<(), Fail> {
+    let mut draft = draft();
+    for channels in [1, 0] {
+        draft.counts[2] = channels;
+        let plan = Plan::read(&draft.bytes(rt.alloc())?);
+        for (from, to, flows) in [
+            (0, 1, channels == 1),
+            (1, 0, false),
+            (0, 0, false),
+            (1, 1, false),
+        ] {
+            assert_eq!(rt; plan.flows(from, to), flows);
+        }
+    }
+    Ok(())
+}
