@@ -109,6 +109,8 @@ impl Stepper {
 
     // Runs until the clock has come to `stop`, and answers how many instructions began. None begins from then on, and a stopped program waits.
     // A loop by the clock, which no range or iterator counts. Whether the program is ready is read once for each instruction.
+    // A call of its own: in place the loop would share registers with the switch.
+    #[inline(never)]
     pub fn run_until(&mut self, words: &mut [u32], stop: u64) -> u64
         ensures { moment self.new.core words.new result ≡ run_until stop self.old.core words.old }
     {
