@@ -33,13 +33,17 @@ TellsAll =
     (bytes image : List ℕ) (n m : ℕ) → ((i : ℕ) → byte bytes i < 256) → longest ≤ n → front_size image ≤ m →
     admitted (take n bytes) (image_words (take m image)) (take m image) ≡ admitted bytes (image_words image) image
 
--- what an opened plan has: the words that the image lends, with which the checker accepts the plan
-pub record OpenedSo (bytes image : List ℕ) (opened : Opened) : Type 0 where
-  pub admits : Admits bytes (image_words image) image (Ok opened.accepted)
-  pub words : opened.words.items ≡ image_words image
+-- what an opened plan has: the words that are lent to it, with which the checker accepts the plan
+pub record OpenedSo (bytes lent image : List ℕ) (opened : Opened) : Type 0 where
+  pub admits : Admits bytes lent image (Ok opened.accepted)
+  pub words : opened.words.items ≡ lent
   pub judged : checked bytes opened.words.items ≡ Ok opened.accepted
 
--- what opening a plan with its image gives: the verdict on the plan with the words that the image lends
+-- what opening a plan with words and their image gives: the verdict on the plan with these words
+abbrev pub OpensWith : List ℕ → List ℕ → List ℕ → Result Opened Refusal → Type 0
+OpensWith bytes words image (Ok opened) = OpenedSo bytes words image opened
+OpensWith bytes words image (Err e) = Admits bytes words image (Err e)
+
+-- what opening a plan with its image gives: the same with the words that the image lends
 abbrev pub Opens : List ℕ → List ℕ → Result Opened Refusal → Type 0
-Opens bytes image (Ok opened) = OpenedSo bytes image opened
-Opens bytes image (Err e) = Admits bytes (image_words image) image (Err e)
+Opens bytes image r = OpensWith bytes (image_words image) image r

@@ -3,7 +3,7 @@
 
 ghost use Rattle.std.specs.Prelude.{◌≡◌, IfOk, Ok};
 ghost use Rattle.checker.specs.Checked.{checked};
-ghost use Rattle.admission.specs.Admitted.{Admits, Opens, admitted};
+ghost use Rattle.admission.specs.Admitted.{Admits, Opens, OpensWith, admitted};
 
 use checker::{Accepted, check as check_plan};
 use image::{check as check_image, load};
@@ -31,10 +31,17 @@ pub fn admit(plan: &[u8], words: &[u32], image: &[u8]) -> Result<Accepted, Refus
     Ok(accepted)
 }
 
+// Judges the plan with words that were loaded from its image. Nothing is allocated, so the verdict is the only answer.
+pub fn open_with(plan: &[u8], words: Vec<u32>, image: &[u8]) -> Result<Opened, Refusal>
+    ensures { OpensWith plan.now words.items image.now result }
+{
+    admit(plan, &words, image).map(|accepted| Opened { accepted, words })
+}
+
 // Loads the image's words and judges the plan with them. The outer error: no memory is left for the words.
 pub fn open(heap: Global, plan: &[u8], image: &[u8]) -> Result<Result<Opened, Refusal>, AllocError>
     ensures { IfOk result (Opens plan.now image.now) }
 {
     let words = load(heap, image)?;
-    Ok(admit(plan, &words, image).map(|accepted| Opened { accepted, words }))
+    Ok(open_with(plan, words, image))
 }

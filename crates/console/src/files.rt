@@ -31,7 +31,7 @@ impl Files {
 }
 
 // The bytes of a file, at most so many: what lies past them is not read.
-pub(crate) fn read_up_to(rt: &HostRuntime, path: &str, limit: usize) -> Result<Vec<u8>, Problem>
+pub fn read_up_to(rt: &HostRuntime, path: &str, limit: usize) -> Result<Vec<u8>, Problem>
     ensures bounded { IfOk result (λ v. vec_len v ≤ limit) }
     ensures unreadable { IfErr result (IsUnreadable path.now) }
 {

@@ -10,7 +10,7 @@ use std::io;
 use std::process::ExitCode;
 use thiserror::Error;
 
-const VERSION: &str = "0.1.0";
+pub const VERSION: &str = "0.1.0";
 
 // What every program takes, for the end of its list of arguments.
 const OPTIONS: &str = "

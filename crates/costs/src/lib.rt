@@ -7,13 +7,13 @@ pub mod used;
 // every instruction
 pub const INSTRUCTION: u32 = 1;
 // a page that is not in the TLB: the walk of its page table
-pub(crate) const WALK: u32 = 30;
+pub const WALK: u32 = 30;
 // a line that is not in the cache
-pub(crate) const MISS: u32 = 20;
+pub const MISS: u32 = 20;
 // a dirty line that leaves the cache
 pub const WRITE_BACK: u32 = 10;
 // a branch that the predictor got wrong
-pub(crate) const MISPREDICTION: u32 = 3;
+pub const MISPREDICTION: u32 = 3;
 // a word of a message that is copied
 pub const COPIED_WORD: u32 = 1;
 
@@ -22,7 +22,7 @@ pub const CACHE_LINES: u32 = 64;
 // The worst case of an instruction: a load or store whose code page, data page and line are all missing, over a dirty line.
 pub const WORST_INSTRUCTION: u32 = INSTRUCTION + WALK + WALK + MISS + WRITE_BACK;
 // The worst case of a branch, which has no data: its code page is missing, and the predictor got it wrong.
-pub(crate) const WORST_BRANCH: u32 = INSTRUCTION + WALK + MISPREDICTION;
+pub const WORST_BRANCH: u32 = INSTRUCTION + WALK + MISPREDICTION;
 // The most that can lie between a slot's end and the end of a switch without messages: the last instruction began in the slot's last cycle, and every line is dirty.
 pub const WORST_SWITCH: u32 = WORST_INSTRUCTION - 1 + CACHE_LINES * WRITE_BACK;
 

@@ -12,7 +12,7 @@ pub const MOST_FRAMES: u32 = 256;
 pub const TABLE_ENTRIES: u32 = FRAME_WORDS as u32;
 
 // Whether a walk may go to the frame: it is below 256, and all of its words are lent.
-fn has_frame(words: &[u32], frame: u32) -> bool
+pub fn has_frame(words: &[u32], frame: u32) -> bool
     ensures { result ≡ has_frame words.now frame }
 {
     frame < MOST_FRAMES && is_lent(words, frame)

@@ -46,7 +46,7 @@ pub fn longest() -> usize
 
 impl Counts {
     // The counts in the first three bytes, whatever they are.
-    fn read(bytes: &[u8]) -> Counts
+    pub fn read(bytes: &[u8]) -> Counts
         ensures { result ≡ counts_of bytes.now }
     {
         Counts {

@@ -8,9 +8,12 @@ use crate::model::Plan;
 use costs::{COPIED_WORD, WORST_SWITCH};
 use words::frames::FRAME_WORDS;
 
+// The cycles of a message: one frame.
+pub const MESSAGE: u32 = FRAME_WORDS as u32 * COPIED_WORD;
+
 impl Plan {
     // How many channels lead out of a partition.
-    fn channels_out(&self, who: u8) -> u8
+    pub fn channels_out(&self, who: u8) -> u8
         ensures { result ≡ channels_out self.now who }
     {
         (0..self.counts.channels)
@@ -24,7 +27,7 @@ impl Plan {
         ensures value { result ≡ copy_cycles (copies self.now who) }
         ensures most { result ≤ 255 * 1024 * copied_word }
     {
-        u32::from(self.channels_out(who)) * (FRAME_WORDS as u32 * COPIED_WORD)
+        u32::from(self.channels_out(who)) * MESSAGE
     }
 
     // The most cycles from the end of a slot of a partition to that of its switch: the rest of the last instruction, the write-back

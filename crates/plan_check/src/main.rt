@@ -27,6 +27,7 @@ fn check(rt: &HostRuntime) -> Result<(), Problem> {
     let image = file_name(&line, 1, "IMAGE")?;
     at_most(&line, 2)?;
     let files = Files::read(rt, plan, image)?;
-    admission::open(rt.alloc(), &files.plan, &files.image)??;
+    let words = image::load(rt.alloc(), &files.image)?;
+    admission::open_with(&files.plan, words, &files.image)?;
     Ok(println!(rt; "accepted")?)
 }

@@ -42,11 +42,12 @@ fn run(rt: &HostRuntime) -> Result<(), Problem> {
     at_most(&line, options + usize::from(last_only))?;
     let count = slots.count(rt)?;
     let files = Files::read(rt, plan, image)?;
+    let words = image::load(rt.alloc(), &files.image)?;
     if last_only {
-        let whole = whole_run::run(rt.alloc(), &files.plan, &files.image, count)??;
+        let whole = whole_run::run_with(&files.plan, words, &files.image, count)?;
         return Ok(print_last(rt, whole.finished.last)?);
     }
-    let mut opened = admission::open(rt.alloc(), &files.plan, &files.image)??;
+    let mut opened = admission::open_with(&files.plan, words, &files.image)?;
     let mut session = Session::start(opened.accepted);
     Ok(print_slots(rt, &mut session, &mut opened.words, count)?)
 }

@@ -1,10 +1,8 @@
 -- What a row is charged for.
-use Rattle.std.proofs.Common.{◌≡◌, ℕ, zero, suc, ◌+◌, ◌*◌, ◌<◌, ◌≤◌, Bool, true, false, cond, not, ◌&&◌, ◌||◌, eqb, List, [], ◌∷◌, length, get_or, take, Some, None, Option, sym, refl, ap, ◌∙◌, subst, inl, inr, add-one, arith}
+use Rattle.std.proofs.Common.{◌≡◌, ℕ, ◌+◌, ◌*◌, ◌<◌, Bool, true, false, cond, not, ◌&&◌, ◌||◌, eqb, List, [], ◌∷◌, Some, None, Option, sym, refl, ap, ◌∙◌, subst, inl, inr, arith}
 use Rattle.std.proofs.lemmas.Nat.{mod_below}
-use Rattle.std.proofs.lemmas.List.{get_or-set_same, get_or-set_other, take_all}
-use Rattle.std.proofs.lemmas.List.Sums.{count_by_more_no, count_by_more_yes}
-use Rattle.std.proofs.lemmas.Bool.{cases_Bool, and_left, and_right, and_from, eq-eqb, ne_eqb, not_from_true, not_from_false}
-use Rattle.std.specs.List.{count_by}
+use Rattle.std.proofs.lemmas.List.{get_or-set_same, get_or-set_other}
+use Rattle.std.proofs.lemmas.Bool.{and_left, and_right, and_from, eq-eqb, ne_eqb, not_from_true, not_from_false}
 use Rattle.costs.specs.declared.used.CacheUse.TheVariants.{DirtyMiss, Hit, Miss}
 use Rattle.costs.specs.Costs.{cache_lines, miss, write_back}
 use Rattle.costs.specs.Cycles.{cache_cycles}
@@ -46,19 +44,6 @@ all_lines cache u whole =
     let there : dirty_at (used cache u) at ≡ is_dirty new = ap is_dirty (get_or-set_same cache.lines at new None (omega arith)) in
     let change = count_change (dirty_at (used cache u)) (dirty_at cache) at cache_lines inside (λ k ne. ap is_dirty (get_or-set_other cache.lines at k new None ne)) in
     sums (hits cache u.line) (is_dirty (held cache u.line)) u.store (dirty_count (used cache u)) (dirty_count cache) (change ∙ ap (λ b. dirty_count cache + weight b 1) there)
-
--- the places below a number that are dirty are as many as the dirty lines before it
-counted : (lines : List (Option Line)) (n : ℕ) → n ≤ length lines → count (λ at. is_dirty (get_or lines at None)) n ≡ count_by is_dirty (take n lines)
-unfolding count
-counted lines zero l = refl
-counted lines (suc n) l = elim (cases_Bool (is_dirty (get_or lines n None))) [
-  | inl e ↦ let more = rw add-one at (count_by_more_yes is_dirty lines n None (omega arith) e) in rw e (omega (arith, more, counted lines n (omega arith)))
-  | inr e ↦ let more = rw add-one at (count_by_more_no is_dirty lines n None (omega arith) e) in rw e (omega (arith, more, counted lines n (omega arith)))
-]
-
-pub dirty_counted : (cache : Cache) → Whole cache → dirty_count cache ≡ count_by is_dirty cache.lines
-dirty_counted cache whole =
-    counted cache.lines cache_lines (omega (arith, whole)) ∙ ap (count_by is_dirty) (take_all cache_lines cache.lines (omega (arith, whole)))
 
 -- one line
 same_line : (dirty store : Bool) → weight (dirty && false) 1 + weight (dirty || store) 1 ≡ weight (store && not dirty) 1 + weight dirty 1

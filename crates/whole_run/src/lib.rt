@@ -1,8 +1,8 @@
-// A whole run, from the bytes of a plan and an image and a number of slots: judged once, and then run.
+// A whole run, from the bytes of a plan and an image, or from words that were loaded, and a number of slots: judged once, and then run.
 #![tactic(auto)]
 
 ghost use Rattle.std.specs.Prelude.{IfOk};
-ghost use Rattle.whole_run.specs.Whole.{RunsFiles};
+ghost use Rattle.whole_run.specs.Whole.{RunsFiles, RunsWith};
 
 use plan::refusal::Refusal;
 use separation::run::{Finished, run as run_slots};
@@ -15,7 +15,21 @@ pub struct Whole {
     pub words: Vec<u32>,
 }
 
-// Runs so many slots, or answers the refusal. The outer error: no memory is left for the words.
+// Runs so many slots in words that were loaded from the image, or answers the refusal. Nothing is allocated, so there is no other answer.
+pub fn run_with(plan: &[u8], words: Vec<u32>, image: &[u8], count: u32) -> Result<Whole, Refusal>
+    ensures { RunsWith plan.now words.items image.now count result }
+{
+    match admission::open_with(plan, words, image) {
+        Ok(opened) => {
+            let mut words = opened.words;
+            let finished = run_slots(opened.accepted, &mut words, count);
+            Ok(Whole { finished, words })
+        }
+        Err(refusal) => Err(refusal),
+    }
+}
+
+// Loads the image's words and runs so many slots in them, or answers the refusal. The outer error: no memory is left for the words.
 pub fn run(
     heap: Global,
     plan: &[u8],
@@ -24,12 +38,6 @@ pub fn run(
 ) -> Result<Result<Whole, Refusal>, AllocError>
     ensures { IfOk result (RunsFiles plan.now image.now count) }
 {
-    match admission::open(heap, plan, image)? {
-        Ok(opened) => {
-            let mut words = opened.words;
-            let finished = run_slots(opened.accepted, &mut words, count);
-            Ok(Ok(Whole { finished, words }))
-        }
-        Err(refusal) => Ok(Err(refusal)),
-    }
+    let words = image::load(heap, image)?;
+    Ok(run_with(plan, words, image, count))
 }
