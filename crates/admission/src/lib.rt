@@ -10,7 +10,7 @@ use image::{check as check_image, load};
 use plan::refusal::Refusal;
 use std::alloc::{AllocError, Global};
 
-// A plan that was accepted with its image, and the words that the image lends.
+// A plan that was accepted with its image, and the words that were lent to it.
 #[derive(Drop)]
 pub struct Opened {
     pub accepted: Accepted,

@@ -16,6 +16,8 @@ mod lookups;
 #[cfg(test)]
 mod plans;
 #[cfg(test)]
+mod runs;
+#[cfg(test)]
 mod slots;
 #[cfg(test)]
 mod steps;
